@@ -6,7 +6,7 @@ use mathlib.Core.Path.{_≡_, refl, sym, ap, ap₂, _∙_, subst₂}
 use mathlib.Core.Logic.{⊎-elim}
 use mathlib.Core.List.{List, [], _∷_, map, List·Memᴰ, List·Memᴰ·head, List·Memᴰ·tail, List·Memᴰ·cases-cons, List·Memᴰ·not-nil}
 use Prim.Native.Nat.{ℕ, zero, suc, _+_, _-_, _≤_, _<_, min, max}
-use native.Mathlib.Nat.{le-refl, le-trans, min-eq-left, min-eq-right, max-eq-left, max-eq-right, min-le-left, sub-le, sub-zero, add-le-add}
+use native.Mathlib.Nat.{le-refl, le-trans, min-eq-left, max-eq-right, min-comm, max-comm, min-le-left, sub-le, sub-zero, add-le-add}
 use native.Mathlib.Decide.{decLe}
 use native.Mathlib.Omega.{arith}
 use lib.Arith.{sub-sub-self}
@@ -50,23 +50,23 @@ module _ (s t : ℕ) (h : ℕ → ℕ) (scaling : Scaling s t h) where
   keeps-scale : h s ≡ t
   keeps-scale = ap h (sym (sub-zero s)) ∙ scaling .turns 0 (omega arith) ∙ ap (λ (x : ℕ). t - x) (scaling .zeros) ∙ sub-zero t
 
-  keeps-min : (x y : ℕ) → x ≤ s → y ≤ s → h (min x y) ≡ min (h x) (h y)
-  keeps-min x y a b = at (decLe x y)
+  -- an operation that gives the lesser, or the greater, of its arguments is kept
+  keeps-choice : (op side : ℕ → ℕ → ℕ) → ((x y : ℕ) → op x y ≡ op y x) → ((x y : ℕ) → x ≤ y → op x y ≡ side x y)
+      → ((x y : ℕ) → h (side x y) ≡ side (h x) (h y)) → (x y : ℕ) → x ≤ s → y ≤ s → h (op x y) ≡ op (h x) (h y)
+  keeps-choice op side comm chooses kept x y a b = at (decLe x y)
     where
-      at : Dec (x ≤ y) → h (min x y) ≡ min (h x) (h y)
-      at (yes l) = rw (min-eq-left l, min-eq-left (scaling .rises x y l b))
-      at (no l) =
-          let under : y ≤ x = omega arith in
-          rw (min-eq-right under, min-eq-right (scaling .rises y x under a))
+      ordered : (x y : ℕ) → x ≤ y → y ≤ s → h (op x y) ≡ op (h x) (h y)
+      ordered x y l b = ap h (chooses x y l) ∙ kept x y ∙ sym (chooses (h x) (h y) (scaling .rises x y l b))
+
+      at : Dec (x ≤ y) → h (op x y) ≡ op (h x) (h y)
+      at (yes l) = ordered x y l b
+      at (no d) = ap h (comm x y) ∙ ordered y x (omega arith) a ∙ comm (h y) (h x)
+
+  keeps-min : (x y : ℕ) → x ≤ s → y ≤ s → h (min x y) ≡ min (h x) (h y)
+  keeps-min = keeps-choice min (λ x y. x) min-comm (λ x y l. min-eq-left l) (λ x y. refl)
 
   keeps-max : (x y : ℕ) → x ≤ s → y ≤ s → h (max x y) ≡ max (h x) (h y)
-  keeps-max x y a b = at (decLe x y)
-    where
-      at : Dec (x ≤ y) → h (max x y) ≡ max (h x) (h y)
-      at (yes l) = rw (max-eq-right l, max-eq-right (scaling .rises x y l b))
-      at (no l) =
-          let under : y ≤ x = omega arith in
-          rw (max-eq-left under, max-eq-left (scaling .rises y x under a))
+  keeps-max = keeps-choice max (λ x y. y) max-comm (λ x y l. max-eq-right l) (λ x y. refl)
 
   keeps-literal : (d g : ℕ) → g ≤ s → h (literal s d g) ≡ literal t d (h g)
   unfolding literal

@@ -1,6 +1,7 @@
 -- The cover: walk the primes, strike what the rest makes superfluous, keep what is left.
 --   those t ps        those of ps that pass the test, in their order
 --   without p ps      ps with p left out
+--   isOneOf p ps      whether p is one of ps
 --   walk n k ps       those of ps with fewer than k literals, most literals first, among equals the later in ps first
 --   strike n ps left  what is left of `left` once the phrases ps have been met one after the other
 --   cover n f         what the walk leaves of the primes

@@ -1,4 +1,5 @@
 -- Functions: what gives a grade at each scale and vector, so that sheets and what is made of them share every definition that follows.
+--   Fn               from a scale and a vector to a grade
 --   sheetFn n F      the sheet's value
 --   joinFn f g       the larger value
 --   meetFn f g       the smaller value

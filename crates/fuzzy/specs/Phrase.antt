@@ -2,6 +2,7 @@
 --   digits b n c        the n digits of c in base b, x1's first
 --   Complementary n p   some variable of the phrase is a pair
 --   Simple n p          no variable of the phrase is a pair
+--   literalsOf ds       how many literals the digits stand for
 --   literals n p        how many literals the phrase has
 --   has p k             1 where the phrase has literal k, 0 where it has not: of the variable whose digit is worth 4 ^ j, ~x is literal 2j and x is 2j + 1
 --   less p k            the phrase with its literal k left out

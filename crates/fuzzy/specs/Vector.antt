@@ -1,6 +1,7 @@
 -- Vectors of scale 2 by number, and the decisions that they allow.
 --   vector n k       the vector with number k: its n digits in base 3
 --   above n f p k    whether the phrase is above f at vector k
+--   firstFrom t k m  the first of the m numbers from k on that passes the test, k + m where none does
 --   first t m        the least number below m that passes the test, m where none does
 --   lowest n f p     the lowest vector at which the phrase is above f, 3 ^ n where there is none
 --   implicant? n f p whether the phrase is above f at no vector
