@@ -65,17 +65,19 @@ table =
 
 -- opens every definition that the rows compute with
 computed : Unit {0}
-unfolding digits literalsOf literals has literal least phraseValue sheetValue vector above firstFrom first lowest implicant? spare prime? select primes those without isOneOf walk strike cover flags
+unfolding digits literalsOf literals has literal least phraseValue sheetValue vector above
+    firstFrom first lowest implicant? spare prime? select primes those without isOneOf walk strike cover flags
 computed = tt
 
 infixr 5 _and_
+-- a pair, written so that the facts of the table stand in one column
 abbrev _and_ : {A B : Type 0} → A → B → A × B
 a and b = (a, b)
 
 -- each row holds
-pub known : Every table
+pub table-holds : Every table
 unfolding computed
-known =
+table-holds =
     (refl, refl, refl)  -- C1
     and (refl, refl, refl)  -- C2
     and (refl, refl, refl)  -- C3
@@ -101,6 +103,7 @@ larger = 39 ∷ 72 ∷ 82 ∷ 164 ∷ []
 abbrev pub largerList : List ℕ
 largerList = 39 ∷ 44 ∷ 54 ∷ 67 ∷ 72 ∷ 82 ∷ 164 ∷ 194 ∷ 224 ∷ []
 
+-- the definitions give this list
 pub larger-list : listed 4 larger ≡ largerList
 unfolding computed
 larger-list = refl
@@ -110,6 +113,7 @@ larger-walk : strike 4 (walk 4 9 largerList) largerList ≡ 67 ∷ 72 ∷ 82 ∷
 unfolding computed
 larger-walk = refl
 
+-- so the cover is what the walk leaves of it
 pub larger-cover : cover 4 (sheetFn 4 larger) ≡ 67 ∷ 72 ∷ 82 ∷ 164 ∷ []
 unfolding cover
 larger-cover = rw (larger-list) larger-walk

@@ -148,6 +148,18 @@ module _ (n : ℕ) where
   pub of-complement : (f : Fn) → OfSheet n f → OfSheet n (complementFn f)
   of-complement f (A, e) = (complementSheet n A, λ s h v g. ap (λ x. s - x) (e s h v g) ∙ complement-sheet n A s h v g)
 
+-- so the larger of two sheets is a sheet's function
+pub of-joined : (n : ℕ) (A B : List ℕ) → OfSheet n (joinFn (sheetFn n A) (sheetFn n B))
+of-joined n A B = (A ++ B, join-sheet n A B)
+
+-- so is the smaller
+pub of-met : (n : ℕ) (A B : List ℕ) → OfSheet n (meetFn (sheetFn n A) (sheetFn n B))
+of-met n A B = (meetSheet A B, meet-sheet n A B)
+
+-- and the complement of a sheet
+pub of-complemented : (n : ℕ) (A : List ℕ) → OfSheet n (complementFn (sheetFn n A))
+of-complemented n A = (complementSheet n A, complement-sheet n A)
+
 -- a meet of sheets with codes below 4 ^ n has codes below 4 ^ n
 pub meet-below : (n : ℕ) (A B : List ℕ) → Below (4 ^ n) A → Below (4 ^ n) B → Below (4 ^ n) (meetSheet A B)
 meet-below n A B hA hB p m =

@@ -63,21 +63,32 @@ least-absent s (suc n) (d ∷ ds) (g ∷ v) e h =
     rw (half-absent s d g (omega arith), least-absent s n ds v (omega arith) (omega arith)) (omega arith)
 
 -- at halves every phrase is at least 1
-phrase-half : (n p : ℕ) → 1 ≤ phraseValue 2 n p (halves n)
+at-halves : (n p : ℕ) → 1 ≤ phraseValue 2 n p (halves n)
 unfolding phraseValue halves
-phrase-half n p = least-half n (digits 4 n p)
+at-halves n p = least-half n (digits 4 n p)
 
 -- and 2 only where it is the scale everywhere
 phrase-absent : (s n p : ℕ) (v : List ℕ) → 2 ≤ phraseValue 2 n p (halves n) → phraseValue s n p v ≡ s
 unfolding phraseValue halves
 phrase-absent s n p v h = least-absent s n (digits 4 n p) v (digits-length 4 (omega arith) n p) h
 
+-- a sheet that is 0 at halves has no phrase
+zero-at-halves : (n : ℕ) (F : List ℕ) → sheetValue 2 n F (halves n) ≡ 0 → F ≡ []
+zero-at-halves n [] e = refl
+zero-at-halves n (p ∷ F) e = absurd (omega (arith, at-halves n p, sheet-upper 2 n (halves n) (p ∷ F) p (List·Memᴰ·head refl)))
+
+-- one that is 2 there is the constant 1
+two-at-halves : (n : ℕ) (F : List ℕ) → 2 ≤ sheetValue 2 n F (halves n) → Same n (sheetFn n F) oneFn
+two-at-halves n F l s h v g =
+    let (p, m, r) = sheet-reached 2 n (halves n) F 2 (omega arith) l in
+    le-antisymm (sheet-le s n v F) (rw (phrase-absent s n p v r) at (sheet-upper s n v F p m))
+
 -- the constant 0 has no prime
 pub zero-list : (n : ℕ) → primes n zeroFn ≡ []
 zero-list n = empty (primes n zeroFn) (λ p m. never p (exactly n zeroFn (of-zero n) p .0 m .1 .implicant))
   where
     never : (p : ℕ) → Implicant n zeroFn p → ⊥
-    never p i = omega (arith, phrase-half n p, i 2 (le-refl 2) (halves n) (halves-grades n))
+    never p i = omega (arith, at-halves n p, i 2 (le-refl 2) (halves n) (halves-grades n))
 
     empty : (ps : List ℕ) → ((p : ℕ) → List·Memᴰ p ps → ⊥) → ps ≡ []
     empty [] h = refl
@@ -109,31 +120,23 @@ one-list n = single (primes n oneFn) (rising n oneFn) there (λ p m. alone p m)
         absurd (omega (arith, r 0 1 (omega arith) (omega arith), h p (List·Memᴰ·head refl), h q (List·Memᴰ·tail (List·Memᴰ·head refl))))
 
 module _ (n : ℕ) (A : List ℕ) where
-  -- the empty list is the least and [0] the greatest
+  -- a sheet joined with the empty list has its own list
   pub join-zero : joined n A [] ≡ listed n A
   unfolding sheetValue
   join-zero = equal-lists n _ _ (λ s h v g. omega arith)
 
+  -- a sheet met with the empty list has the empty list
   pub meet-zero : met n A [] ≡ []
   unfolding sheetValue
   meet-zero = equal-lists n _ zeroFn (λ s h v g. omega arith) ∙ zero-list n
 
+  -- a sheet joined with [0] has the list [0]
   pub join-one : joined n A (0 ∷ []) ≡ 0 ∷ []
   join-one = equal-lists n _ oneFn (λ s h v g. rw (← (one-sheet n s h v g)) (omega (arith, sheet-le s n v A))) ∙ one-list n
 
+  -- a sheet met with [0] has its own list
   pub meet-one : met n A (0 ∷ []) ≡ listed n A
   meet-one = equal-lists n _ _ (λ s h v g. rw (← (one-sheet n s h v g)) (omega (arith, sheet-le s n v A)))
-
-  -- a sheet that is 0 at halves has no phrase
-  zero-at-halves : (F : List ℕ) → sheetValue 2 n F (halves n) ≡ 0 → F ≡ []
-  zero-at-halves [] e = refl
-  zero-at-halves (p ∷ F) e = absurd (omega (arith, phrase-half n p, sheet-upper 2 n (halves n) (p ∷ F) p (List·Memᴰ·head refl)))
-
-  -- one that is 2 there is the constant 1
-  two-at-halves : (F : List ℕ) → 2 ≤ sheetValue 2 n F (halves n) → Same n (sheetFn n F) oneFn
-  two-at-halves F l s h v g =
-      let (p, m, r) = sheet-reached 2 n (halves n) F 2 (omega arith) l in
-      le-antisymm (sheet-le s n v F) (rw (phrase-absent s n p v r) at (sheet-upper s n v F p m))
 
   -- a sheet joined with its complement is the constant 1 exactly when the sheet is constant 0 or constant 1
   pub middle : (joined n A (complemented n A) ≡ 0 ∷ []) ↔ (Same n (sheetFn n A) zeroFn ⊎ Same n (sheetFn n A) oneFn)
@@ -157,8 +160,8 @@ module _ (n : ℕ) (A : List ℕ) where
       to e = at (decLe 2 a)
         where
           at : Dec (2 ≤ a) → Same n (sheetFn n A) zeroFn ⊎ Same n (sheetFn n A) oneFn
-          at (yes l) = inr (two-at-halves A l)
-          at (no d) = inl (λ s h v g. rw (zero-at-halves A (omega (arith, extreme e)), sheetValue))
+          at (yes l) = inr (two-at-halves n A l)
+          at (no d) = inl (λ s h v g. rw (zero-at-halves n A (omega (arith, extreme e)), sheetValue))
 
       from : Same n (sheetFn n A) zeroFn ⊎ Same n (sheetFn n A) oneFn → joined n A (complemented n A) ≡ primes n oneFn
       from (inl zeros) = equal-lists n _ oneFn (λ s h v g. rw (complemented-value n A s h v g, zeros s h v g) (omega arith))

@@ -1,9 +1,10 @@
+-- The walk meets each prime once, those with more literals first.
 -- The cover is made of primes, rising, keeps the function's value at all grades, and loses some of it without any one of its phrases.
 -- A phrase is struck where it is never above the rest, so no value changes. A phrase that stays was met by the walk and kept: it was
 -- above the rest at some vector of scale 2, and what the cover has besides it is part of that rest.
 use mathlib.Core.Path.{_≡_, refl, sym, ap, _∙_}
 use mathlib.Core.Bool.{Bool, true, false, cond, not, false≢true}
-use mathlib.Core.Logic.{_⊎_, inl, inr, _↔_}
+use mathlib.Core.Logic.{_⊎_, inl, inr, _↔_, _≢_}
 use mathlib.Core.List.{List, [], _∷_, map, List·Memᴰ, List·Memᴰ·cases-cons, List·Memᴰ·not-nil}
 use Prim.Native.Nat.{ℕ, zero, suc, _*_, _≤_, _<_}
 use native.Mathlib.Nat.{le-trans, le-antisymm}
@@ -13,8 +14,8 @@ use lib.ListN.{length, getD, length-map}
 use Rattle.fuzzy.specs.Grade.{Grades, phraseValue, sheetValue}
 use Rattle.fuzzy.specs.Function.{Fn, sheetFn, Same, OfSheet}
 use Rattle.fuzzy.specs.Vector.{vector, lowest, implicant?}
-use Rattle.fuzzy.specs.Primes.{primes, Rising}
-use Rattle.fuzzy.specs.Cover.{without, isOneOf, walk, strike, cover, flags}
+use Rattle.fuzzy.specs.Primes.{primes, InOrder, Rising}
+use Rattle.fuzzy.specs.Cover.{without, isOneOf, walk, Before, strike, cover, flags}
 use Rattle.fuzzy.proofs.Search.{known, eqb-eq, eqb-ne, without-member, one-of}
 use Rattle.fuzzy.proofs.Sheet.{sheet-upper, sheet-least}
 use Rattle.fuzzy.proofs.Scale.{raised}
@@ -22,7 +23,7 @@ use Rattle.fuzzy.proofs.Decide.{vector-grades, on-two, decided}
 use Rattle.fuzzy.proofs.Lowest.{lowest-above}
 use Rattle.fuzzy.proofs.List.{rising, keeps as list-keeps}
 use Rattle.fuzzy.proofs.Order.{Ordered, by-index, by-member, those-order}
-use Rattle.fuzzy.proofs.Walk.{walk-member}
+use Rattle.fuzzy.proofs.Walk.{walk-member, walk-once, walk-order}
 
 -- every phrase of A is one of B
 abbrev Among : List ℕ → List ℕ → Type 0
@@ -100,25 +101,37 @@ flag-says false x M e d = ((λ y. absurd (omega arith), λ m. absurd (false≢tr
 
 module _ (n : ℕ) (f : Fn) where
   -- the primes as the walk meets them
-  abbrev met : List ℕ
-  met = walk n (suc (2 * n)) (primes n f)
+  abbrev order : List ℕ
+  order = walk n (suc (2 * n)) (primes n f)
+
+  -- the walk meets each prime and no other phrase
+  pub meets-each : (p : ℕ) → List·Memᴰ p (walk n (suc (2 * n)) (primes n f)) ↔ List·Memᴰ p (primes n f)
+  meets-each = walk-member n (primes n f)
+
+  -- it meets none of them twice
+  pub meets-once : InOrder _≢_ (walk n (suc (2 * n)) (primes n f))
+  meets-once = walk-once n (primes n f) (rising n f)
+
+  -- it meets those with more literals first, among equals the larger code
+  pub meets-in-order : InOrder (Before n) (walk n (suc (2 * n)) (primes n f))
+  meets-in-order = walk-order n (primes n f) (rising n f)
 
   -- the cover is made of primes
   pub cover-member : (p : ℕ) → List·Memᴰ p (cover n f) → List·Memᴰ p (primes n f)
   unfolding cover
-  cover-member = strike-among n met (primes n f)
+  cover-member = strike-among n order (primes n f)
 
   -- the cover is rising
   pub cover-rising : Rising (cover n f)
   unfolding cover without
   cover-rising = by-index _<_ (cover n f) (strike-keeps n (Ordered _<_) (λ left p y o. those-order _<_ (λ q. not (eqb q p)) left o)
-      met (primes n f) (by-member _<_ (primes n f) (rising n f)))
+      order (primes n f) (by-member _<_ (primes n f) (rising n f)))
 
   -- the cover's value is the function's at all grades
   pub keeps : OfSheet n f → Same n (sheetFn n (cover n f)) f
   unfolding cover
   keeps o = strike-keeps n (λ left. Same n (sheetFn n left) f)
-      (λ left p y h s l v g. superfluous-same n left p y s l v g ∙ h s l v g) met (primes n f) (list-keeps n f o)
+      (λ left p y h s l v g. superfluous-same n left p y s l v g ∙ h s l v g) order (primes n f) (list-keeps n f o)
 
   -- without any one of its phrases the cover's value is lower at some vector of scale 2
   pub needs-each : (p : ℕ) → List·Memᴰ p (cover n f)
@@ -132,7 +145,7 @@ module _ (n : ℕ) (f : Fn) where
       )
     where
       alone : superfluous n (cover n f) p ≡ false
-      alone = stays n met (primes n f) p (walk-member n (primes n f) p .1 (cover-member p m)) m
+      alone = stays n order (primes n f) p (meets-each p .1 (cover-member p m)) m
 
   -- without any one of its phrases the cover's value is lower at some vector of every scale from 2
   pub needs-each-everywhere : (s : ℕ) → 2 ≤ s → (p : ℕ) → List·Memᴰ p (cover n f)

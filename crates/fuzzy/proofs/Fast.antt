@@ -16,14 +16,14 @@ use Rattle.fuzzy.specs.Phrase.{digits, has, Complementary, Simple, Subsu
 use Rattle.fuzzy.specs.Grade.{Grades, literal, least, phraseValue, sheetValue}
 use Rattle.fuzzy.specs.Function.{Fn, sheetFn, Same}
 use Rattle.fuzzy.specs.Implicant.{Implicant}
-use Rattle.fuzzy.specs.Vector.{vector, lowest, implicant?}
+use Rattle.fuzzy.specs.Vector.{vector, lowest}
 use Rattle.fuzzy.proofs.Search.{known}
 use Rattle.fuzzy.proofs.Digits.{number, Below, digits-length, digits-below, number-digits, digits-mod}
 use Rattle.fuzzy.proofs.Literals.{digit-complement, digit-plain, has-or, has-mod}
 use Rattle.fuzzy.proofs.Subsumes.{subsumes-union, subsumes-one}
 use Rattle.fuzzy.proofs.Reach.{reachDigit, reach, reach-digits, reach-lt, reached}
 use Rattle.fuzzy.proofs.Sheet.{phrase-le, sheet-upper, sheet-reached}
-use Rattle.fuzzy.proofs.Decide.{vector-grades, decided}
+use Rattle.fuzzy.proofs.Decide.{vector-grades, refused}
 use Rattle.fuzzy.proofs.Lowest.{lowest-above}
 use Rattle.fuzzy.proofs.Prime.{implicant-up}
 use Rattle.fuzzy.proofs.Within.{Within}
@@ -112,9 +112,9 @@ module _ (t x : ℕ) (level : Level t x) where
       (restored ds (λ e m. b e (List·Memᴰ·tail m)) (λ m. no-x (List·Memᴰ·tail m)))
 
   -- a phrase with no digit x has just the literals that are reached at its own grades
-  met : (n p : ℕ) → ¬ List·Memᴰ x (digits 4 n p) → (k : ℕ) → k < 2 * n → has (reach 2 t (map grade (digits 4 n p))) k ≡ has p k
+  restores : (n p : ℕ) → ¬ List·Memᴰ x (digits 4 n p) → (k : ℕ) → k < 2 * n → has (reach 2 t (map grade (digits 4 n p))) k ≡ has p k
   unfolding reach
-  met n p no-x k l = ap (λ c. has c k) same ∙ has-mod n p k l
+  restores n p no-x k l = ap (λ c. has c k) same ∙ has-mod n p k l
     where
       same : number 4 (map (reachDigit 2 t) (map grade (digits 4 n p))) ≡ p % 4 ^ n
       same = rw (restored (digits 4 n p) (digits-below 4 (omega arith) n p) no-x, ← digits-mod 4 (omega arith) n p)
@@ -132,9 +132,9 @@ module _ (t x : ℕ) (level : Level t x) where
 
       to : Implicant n (sheetFn n F) p → Within n F p
       to i =
-          let p-reached = at-least p .1 (λ k l. omega (arith, met n p no-x k l)) in
+          let p-reached = at-least p .1 (λ k l. omega (arith, restores n p no-x k l)) in
           let w = sheet-reached 2 n v F t (level .positive) (le-trans p-reached (i 2 (le-refl 2) v (own-grades n p))) in
-          (w .0, w .1, λ k l. rw (← met n p no-x k l) (at-least (w .0) .0 (w .2) k l))
+          (w .0, w .1, λ k l. rw (← restores n p no-x k l) (at-least (w .0) .0 (w .2) k l))
 
 -- a simple phrase is an implicant exactly when some phrase of the sheet is within it
 pub simple : (n : ℕ) (F : List ℕ) (p : ℕ) → Simple n p → Implicant n (sheetFn n F) p ↔ Within n F p
@@ -183,9 +183,9 @@ digit-in b (suc n) c j l = at (eq-or-lt-of-le {n = j} {m = n} (omega arith)) (di
     at (inr l′) ih = List·Memᴰ·tail (ih l′)
 
 -- so up to half of the scale each variable has a literal that is reached
-literal-reached : (s n t : ℕ) (v : List ℕ) → Grades s n v → t + t ≤ s → (j : ℕ) → j < n
+one-literal-reached : (s n t : ℕ) (v : List ℕ) → Grades s n v → t + t ≤ s → (j : ℕ) → j < n
     → (has (reach s t v) (2 * j) ≡ 1) ⊎ (has (reach s t v) (suc (2 * j)) ≡ 1)
-literal-reached s n t v g h j l =
+one-literal-reached s n t v g h j l =
     let w = reach-grade s n t v g (reach s t v / 4 ^ j % 4) (digit-in 4 n (reach s t v) j l) in
     rw (← digit-complement (reach s t v) j, ← digit-plain (reach s t v) j, ← w .2) (half-reached s t (w .0) h)
 
@@ -214,7 +214,7 @@ split n f p j below pair = (λ i. (to (2 * j) i, to (suc (2 * j)) i), from)
     from h s l v g =
         ⊎-elim (λ e. le-trans (or-keeps s n p (2 * j) v g (omega arith) e) (h .0 s l v g))
         (λ e. le-trans (or-keeps s n p (suc (2 * j)) v g (omega arith) e) (h .1 s l v g))
-        (literal-reached s n (phraseValue s n p v) v g (phrase-half s n p v g pair) j below)
+        (one-literal-reached s n (phraseValue s n p v) v g (phrase-half s n p v g pair) j below)
 
 -- what is reached on scale 2, above 0, is simple or full
 reach-kind : (n t : ℕ) (v : List ℕ) → Grades 2 n v → 0 < t → t ≤ 2 → Simple n (reach 2 t v) ⊎ Full n (reach 2 t v)
@@ -236,14 +236,13 @@ above-outside n F p v g l =
 
 -- a phrase is no implicant of the function of a sheet exactly when a simple or full code outside the sheet's within map subsumes it
 pub outside-of : (n : ℕ) (f : Fn) (F : List ℕ) → Same n f (sheetFn n F) → (p : ℕ) → (¬ Implicant n f p) ↔ Outside n F p
-outside-of n f F same p = (to (known (implicant? n f p)), from)
+outside-of n f F same p = (to, from)
   where
-    to : (implicant? n f p ≡ true) ⊎ (implicant? n f p ≡ false) → ¬ Implicant n f p → Outside n F p
-    to (inl y) none = absurd (none (decided n f (F, same) p .0 y))
-    to (inr y) none =
+    to : ¬ Implicant n f p → Outside n F p
+    to none =
         let v = vector n (lowest n f p) in
         let g = vector-grades n (lowest n f p) in
-        above-outside n F p v g (rw (same 2 (le-refl 2) v g) at (lowest-above n f p y .1))
+        above-outside n F p v g (rw (same 2 (le-refl 2) v g) at (lowest-above n f p (refused n f (F, same) p .1 none) .1))
 
     from : Outside n F p → ¬ Implicant n f p
     from o i =

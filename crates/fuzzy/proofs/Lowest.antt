@@ -1,27 +1,21 @@
 -- Where a phrase is no implicant, `lowest` is the least number of a vector of scale 2 at which it is above, and it is below 3 ^ n.
+-- `first` gives the least number that passes the test, and the test says whether the phrase is above (`Decide.above-says`, `Decide.under-says`).
 use mathlib.Core.Path.{_≡_, sym, _∙_}
-use mathlib.Core.Bool.{true, false, false≢true}
-use mathlib.Core.Logic.{_⊎_, inl, inr}
+use mathlib.Core.Bool.{false, false≢true}
 use Prim.Native.Nat.{ℕ, _^_, _≤_, _<_}
-use native.Mathlib.Nat.{lt-of-not-le}
-use native.Mathlib.Decide.{decLe}
 use lib.Arith.{lt-of-le-ne}
 use Rattle.fuzzy.specs.Grade.{phraseValue}
 use Rattle.fuzzy.specs.Function.{Fn, OfSheet}
 use Rattle.fuzzy.specs.Implicant.{Implicant}
 use Rattle.fuzzy.specs.Vector.{vector, above, lowest, implicant?}
-use Rattle.fuzzy.proofs.Search.{known, eq-eqb, first-le, first-passes, first-least}
-use Rattle.fuzzy.proofs.Decide.{above-says, decided}
+use Rattle.fuzzy.proofs.Search.{eq-eqb, first-le, first-passes, first-least}
+use Rattle.fuzzy.proofs.Decide.{above-says, under-says, refused}
 
 module _ (n : ℕ) (f : Fn) (p : ℕ) where
   -- below the lowest vector the phrase is nowhere above
   pub lowest-least : (k : ℕ) → k < lowest n f p → phraseValue 2 n p (vector n k) ≤ f 2 (vector n k)
   unfolding lowest
-  lowest-least k l = at (decLe (phraseValue 2 n p (vector n k)) (f 2 (vector n k)))
-    where
-      at : Dec (phraseValue 2 n p (vector n k) ≤ f 2 (vector n k)) → phraseValue 2 n p (vector n k) ≤ f 2 (vector n k)
-      at (yes y) = y
-      at (no d) = absurd (false≢true (sym (first-least (above n f p) (3 ^ n) k l) ∙ above-says n f p k .1 (lt-of-not-le d)))
+  lowest-least k l = under-says n f p k .0 (first-least (above n f p) (3 ^ n) k l)
 
   -- where the decision is no, the lowest vector is one of the 3 ^ n, and the phrase is above there
   pub lowest-above : implicant? n f p ≡ false
@@ -36,10 +30,4 @@ module _ (n : ℕ) (f : Fn) (p : ℕ) where
   pub lowest-found : OfSheet n f → ¬ Implicant n f p
       → (lowest n f p < 3 ^ n) × (f 2 (vector n (lowest n f p)) < phraseValue 2 n p (vector n (lowest n f p)))
       × ((k : ℕ) → k < lowest n f p → phraseValue 2 n p (vector n k) ≤ f 2 (vector n k))
-  lowest-found o d = at (known (implicant? n f p))
-    where
-      at : (implicant? n f p ≡ true) ⊎ (implicant? n f p ≡ false)
-          → (lowest n f p < 3 ^ n) × (f 2 (vector n (lowest n f p)) < phraseValue 2 n p (vector n (lowest n f p)))
-          × ((k : ℕ) → k < lowest n f p → phraseValue 2 n p (vector n k) ≤ f 2 (vector n k))
-      at (inl y) = absurd (d (decided n f o p .0 y))
-      at (inr y) = let (bounded, there) = lowest-above y in (bounded, there, lowest-least)
+  lowest-found o d = let (bounded, there) = lowest-above (refused n f o p .1 d) in (bounded, there, lowest-least)

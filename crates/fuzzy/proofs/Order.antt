@@ -9,14 +9,11 @@ use mathlib.Core.List.{List·Memᴰ·not-nil, List·Memᴰ·eq-of-singleton, Lis
 use Prim.Native.Nat.{ℕ, zero, suc, _<_}
 use native.Mathlib.Omega.{arith}
 use lib.ListN.{length, getD}
+use Rattle.fuzzy.specs.Primes.{InOrder}
 use Rattle.fuzzy.specs.Cover.{those}
 use Rattle.fuzzy.proofs.Search.{known, those-member}
 
--- each of ps is in relation R to all that come after it, by index
-abbrev pub InOrder : (ℕ → ℕ → Type 0) → List ℕ → Type 0
-InOrder R ps = (i j : ℕ) → i < j → j < length ps → R (getD ps i 0) (getD ps j 0)
-
--- the same by membership
+-- each of ps is in relation R to all that come after it, by membership
 abbrev pub Ordered : (ℕ → ℕ → Type 0) → List ℕ → Type 0
 Ordered R [] = Unit {0}
 Ordered R (p ∷ ps) = ((q : ℕ) → List·Memᴰ q ps → R p q) × Ordered R ps

@@ -1,6 +1,6 @@
 -- A phrase is at least t at a vector exactly when the code of all literals that are at least t there subsumes it.
 -- Digit by digit: a digit's value is at least t exactly when each of its literals is. Subsuming, too, goes digit by digit (`Covers`).
--- From this come all comparisons of values: subsuming lowers the value, and a union of phrases has the smaller value.
+-- From this come all comparisons of values: subsuming lowers the value.
 use mathlib.Core.Path.{_≡_, refl}
 use mathlib.Core.Bool.{Bool, true, false, cond}
 use mathlib.Core.Logic.{_⊎_, inl, inr, _↔_}

@@ -29,6 +29,7 @@ head-grade s n g v h = h .1 g (List·Memᴰ·head refl)
 tail-grades : (s n g : ℕ) (v : List ℕ) → Grades s (suc n) (g ∷ v) → Grades s n v
 tail-grades s n g v h = (omega (arith, h .0), λ x m. h .1 x (List·Memᴰ·tail m))
 
+-- a grade before a vector makes a vector one longer
 pub cons-grades : (s n g : ℕ) (v : List ℕ) → g ≤ s → Grades s n v → Grades s (suc n) (g ∷ v)
 cons-grades s n g v l h = (ap suc (h .0), λ x m. ⊎-elim (λ (e : x ≡ g). rw e l) (λ (r : List·Memᴰ x v). h .1 x r) (List·Memᴰ·cases-cons m))
 

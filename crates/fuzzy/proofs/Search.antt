@@ -19,30 +19,43 @@ pub known : (b : Bool) → (b ≡ true) ⊎ (b ≡ false)
 known true = inl refl
 known false = inr refl
 
+-- a test that says yes exactly where M holds says no exactly where it does not
+pub no-says : (b : Bool) (M : Type 0) → (b ≡ true) ↔ M → (b ≡ false) ↔ (¬ M)
+no-says true M h = (λ e. absurd (false≢true (sym e)), λ d. absurd (d (h .0 refl)))
+no-says false M h = (λ e m. false≢true (h .1 m), λ d. refl)
+
+-- where both tests say yes, so does their conjunction
 pub both : {a b : Bool} → a ≡ true → b ≡ true → a && b ≡ true
 both {a} {b} p q = rw p q
 
+-- where a conjunction says yes, so does the first
 pub both-first : (a b : Bool) → a && b ≡ true → a ≡ true
 both-first true b e = refl
 both-first false b e = e
 
+-- and so does the second
 pub both-second : (a b : Bool) → a && b ≡ true → b ≡ true
 both-second true b e = e
 both-second false b e = absurd (false≢true e)
 
+-- a truth value that holds is true
 pub true-of : (b : Bool) → T b → b ≡ true
 true-of true t = refl
 true-of false t = absurd t
 
+-- and one that is true holds
 pub of-true : {b : Bool} → b ≡ true → T b
 of-true e = rw e tt
 
+-- where the comparison says yes, the numbers are equal
 pub eqb-eq : (m n : ℕ) → eqb m n ≡ true → m ≡ n
 eqb-eq m n e = eqb→eq m n (of-true e)
 
+-- where they are equal, it says yes
 pub eq-eqb : (m n : ℕ) → m ≡ n → eqb m n ≡ true
 eq-eqb m n e = rw e (true-of (eqb n n) (eqb-refl n))
 
+-- where it says no, they are not
 pub eqb-ne : (m n : ℕ) → eqb m n ≡ false → m ≡ n → ⊥
 eqb-ne m n f e = false≢true (sym f ∙ eq-eqb m n e)
 
@@ -81,6 +94,7 @@ module _ (t : ℕ → Bool) where
           split (inl y) h″ = ih (lt-of-le-ne l (λ same. false≢true (sym e ∙ ap t same ∙ y))) h″
           split (inr y) h″ = y
 
+  -- `first` gives at most m
   pub first-le : (m : ℕ) → first t m ≤ m
   unfolding first
   first-le m = let h = firstFrom-le m 0 in omega arith
@@ -103,13 +117,13 @@ module _ (t : ℕ → Bool) where
       at none (inl e) = e
       at none (inr l) = absurd (false≢true (sym (none (first t m) l) ∙ first-passes m l))
 
--- the search depends on nothing but the test's answers below m
 firstFrom-same : (t u : ℕ → Bool) (m k : ℕ) → ((j : ℕ) → j < k + m → t j ≡ u j) → firstFrom t k m ≡ firstFrom u k m
 unfolding firstFrom
 firstFrom-same t u zero k same = refl
 firstFrom-same t u (suc m) k same =
     rw (same k (omega arith), firstFrom-same t u m (suc k) (λ j l. same j (omega arith)))
 
+-- `first` depends on nothing but the test's answers below m
 pub first-same : (t u : ℕ → Bool) (m : ℕ) → ((j : ℕ) → j < m → t j ≡ u j) → first t m ≡ first u m
 unfolding first
 first-same t u m same = firstFrom-same t u m 0 (λ j l. same j (omega arith))

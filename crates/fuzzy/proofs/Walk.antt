@@ -9,14 +9,10 @@ use native.Mathlib.Nat.{eq-or-lt-of-le, le-of-suc-le-suc}
 use native.Mathlib.Omega.{arith}
 use lib.Dec.{eqb}
 use Rattle.fuzzy.specs.Phrase.{digits, literalsOf, literals}
-use Rattle.fuzzy.specs.Primes.{Rising}
-use Rattle.fuzzy.specs.Cover.{those, walk}
+use Rattle.fuzzy.specs.Primes.{InOrder, Rising}
+use Rattle.fuzzy.specs.Cover.{those, walk, Before}
 use Rattle.fuzzy.proofs.Search.{those-member, eqb-eq, eq-eqb}
-use Rattle.fuzzy.proofs.Order.{InOrder, Ordered, reverse-member, by-index, by-member, those-order, append-order, reverse-order}
-
--- p is met before q: it has more literals, or as many and the larger code
-abbrev pub Before : ℕ → ℕ → ℕ → Type 0
-Before n p q = (literals n q < literals n p) ⊎ ((literals n p ≡ literals n q) × (q < p))
+use Rattle.fuzzy.proofs.Order.{Ordered, reverse-member, by-index, by-member, those-order, append-order, reverse-order}
 
 -- a phrase over n variables has at most 2 * n literals
 pub literals-le : (n p : ℕ) → literals n p ≤ 2 * n

@@ -5,7 +5,7 @@
 --   literalsOf ds       how many literals the digits stand for
 --   literals n p        how many literals the phrase has
 --   has p k             1 where the phrase has literal k, 0 where it has not: of the variable whose digit is worth 4 ^ j, ~x is literal 2j and x is 2j + 1
---   less p k            the phrase with its literal k left out
+--   less p k            the phrase with its literal k left out, where it has it
 --   Subsumes n p q      p has all of q's literals
 use Prim.Native.Nat.{ℕ, zero, suc, _+_, _-_, _*_, _/_, _%_, _^_, _≤_, _<_}
 use mathlib.Core.List.{List, [], _∷_, List·Memᴰ}
@@ -36,7 +36,7 @@ literals n p = literalsOf (digits 4 n p)
 unfoldable pub has : ℕ → ℕ → ℕ
 has p k = p / 2 ^ k % 2
 
--- the phrase with its literal k left out
+-- the phrase with its literal k left out, where it has it
 abbrev pub less : ℕ → ℕ → ℕ
 less p k = p - 2 ^ k
 

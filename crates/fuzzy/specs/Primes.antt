@@ -1,6 +1,7 @@
 -- The list of all primes, and the lists that join, meet and complement give.
 --   select t k m        those of the m numbers from k on that pass the test, rising
 --   primes n f          the primes of f below 4 ^ n, rising
+--   InOrder R ps        each of ps is in relation R to all that come after it
 --   Rising ps           each of ps is below all that come after it
 --   listed n A          the primes of a sheet
 --   joined n A B        the primes of the larger of two sheets
@@ -22,9 +23,13 @@ select t k (suc m) = cond (t k) (k ∷ []) [] ++ select t (suc k) m
 unfoldable pub primes : ℕ → Fn → List ℕ
 primes n f = select (prime? n f) 0 (4 ^ n)
 
+-- each of ps is in relation R to all that come after it
+abbrev pub InOrder : (ℕ → ℕ → Type 0) → List ℕ → Type 0
+InOrder R ps = (i j : ℕ) → i < j → j < length ps → R (getD ps i 0) (getD ps j 0)
+
 -- each of ps is below all that come after it
 abbrev pub Rising : List ℕ → Type 0
-Rising ps = (i j : ℕ) → i < j → j < length ps → getD ps i 0 < getD ps j 0
+Rising ps = InOrder _<_ ps
 
 -- the primes of a sheet
 abbrev pub listed : ℕ → List ℕ → List ℕ

@@ -26,7 +26,7 @@ above n f p k = ltb (f 2 (vector n k)) (phraseValue 2 n p (vector n k))
 -- the first of the m numbers from k on that passes the test, k + m where none does
 unfoldable pub firstFrom : (ℕ → Bool) → ℕ → ℕ → ℕ
 firstFrom t k zero = k
-firstFrom t k (suc m) = let later = firstFrom t (suc k) m in cond (t k) k later
+firstFrom t k (suc m) = cond (t k) k (firstFrom t (suc k) m)
 
 -- the least number below m that passes the test, m where none does
 unfoldable pub first : (ℕ → Bool) → ℕ → ℕ
