@@ -183,7 +183,7 @@ digit-in b (suc n) c j l = at (eq-or-lt-of-le {n = j} {m = n} (omega arith)) (di
     at (inr l′) ih = List·Memᴰ·tail (ih l′)
 
 -- so up to half of the scale each variable has a literal that is reached
-one-literal-reached : (s n t : ℕ) (v : List ℕ) → Grades s n v → t + t ≤ s → (j : ℕ) → j < n
+pub one-literal-reached : (s n t : ℕ) (v : List ℕ) → Grades s n v → t + t ≤ s → (j : ℕ) → j < n
     → (has (reach s t v) (2 * j) ≡ 1) ⊎ (has (reach s t v) (suc (2 * j)) ≡ 1)
 one-literal-reached s n t v g h j l =
     let w = reach-grade s n t v g (reach s t v / 4 ^ j % 4) (digit-in 4 n (reach s t v) j l) in

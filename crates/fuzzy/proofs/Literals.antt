@@ -7,7 +7,7 @@ use Prim.Native.Nat.{ℕ, zero, suc, _+_, _-_, _*_, _/_, _%_, _^_, _≤_, _<_, m
 use native.Mathlib.Nat.{lt-of-lt-of-le, mod-lt, mod-one, div-one, mod-eq-of-lt, sub-self, div-self, div-eq-of-lt, le-div-iff-mul-le, div-div-eq-div-mul, one-le-pow, pow-suc, pow-succ'}
 use native.Mathlib.Omega.{arith}
 use lib.Arith.{digits-mod, mod-mul}
-use lib.Bits.{bitAnd, bitOr, and-step, or-step, and-shr, or-shr}
+use lib.Bits.{bitAnd, bitOr, bitXor, differ, xor-step, xor-shr, and-step, or-step, and-shr, or-shr}
 use lib.Count.{ones, ones-step, ones-cat}
 use lib.Pow.{pow-pos, pow-mono, field, mod-mod-pow}
 use Rattle.fuzzy.specs.Phrase.{digits, has, less, literals, literalsOf}
@@ -56,6 +56,16 @@ has-or = has-op bitOr max or-shr or-step (λ x y a b. omega arith)
 -- `bitAnd` has the literals that both have
 pub has-and : (p q k : ℕ) → has (bitAnd p q) k ≡ min (has p k) (has q k)
 has-and = has-op bitAnd min and-shr and-step (λ x y a b. omega arith)
+
+-- `bitXor` has the literals that one of both has
+pub has-xor : (p q k : ℕ) → has (bitXor p q) k ≡ differ (has p k) (has q k)
+has-xor = has-op bitXor differ xor-shr xor-step differ-lt
+  where
+    differ-lt : (x y : ℕ) → x < 2 → y < 2 → differ x y < 2
+    differ-lt zero y a b = b
+    differ-lt (suc x) zero a b = a
+    differ-lt (suc zero) (suc y) a b = omega arith
+    differ-lt (suc (suc x)) (suc y) a b = absurd (omega arith)
 
 -- a code below 2 ^ k has no literal k
 pub has-none : (p k : ℕ) → p < 2 ^ k → has p k ≡ 0

@@ -24,7 +24,8 @@ at-member [] i h = absurd (omega arith)
 at-member (p ∷ ps) zero h = List·Memᴰ·head refl
 at-member (p ∷ ps) (suc i) h = List·Memᴰ·tail (at-member ps i (omega arith))
 
-member-at : {p : ℕ} {ps : List ℕ} → List·Memᴰ p ps → (i : ℕ) × (i < length ps) × (getD ps i 0 ≡ p)
+-- a member stands at some index
+pub member-at : {p : ℕ} {ps : List ℕ} → List·Memᴰ p ps → (i : ℕ) × (i < length ps) × (getD ps i 0 ≡ p)
 member-at (List·Memᴰ·head e) = (0, omega arith, sym e)
 member-at (List·Memᴰ·tail m) = let a = member-at m in (suc (a .0), omega arith, a .2)
 
