@@ -44,7 +44,8 @@ prime-loses-none n f p below = (
         absurd (needed k kl there (implicant-up n f (less p k) q (less-subsumes n p q k there absent sub) i))
 
 -- `spare` says whether a literal is there and can be left out
-spare-says : (n : ℕ) (f : Fn) (p k : ℕ) → (spare n f p k ≡ true) ↔ ((has p k ≡ 1) × (implicant? n f (less p k) ≡ true))
+-- `spare` says whether a literal is there and can be left out
+pub spare-says : (n : ℕ) (f : Fn) (p k : ℕ) → (spare n f p k ≡ true) ↔ ((has p k ≡ 1) × (implicant? n f (less p k) ≡ true))
 unfolding spare
 spare-says n f p k = (
   λ e. (

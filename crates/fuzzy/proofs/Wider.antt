@@ -86,7 +86,8 @@ by-append s k n P h x gx =
     member : (g : ℕ) → List·Memᴰ g (take k x ++ drop k x) → g ≤ s
     member g m = gx .1 g (rw e at m)
 
-same-truth : (a b : Bool) → (a ≡ true) ↔ (b ≡ true) → a ≡ b
+-- two tests that hold in the same case are the same
+pub same-truth : (a b : Bool) → (a ≡ true) ↔ (b ≡ true) → a ≡ b
 same-truth true b h = sym (h .0 refl)
 same-truth false true h = h .1 refl
 same-truth false false h = refl

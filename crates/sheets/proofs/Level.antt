@@ -74,7 +74,8 @@ module _ (c : ℕ) (six : c < 4 ^ 6) where
   abbrev pub pairs : ℕ
   pairs = bitAnd (bitAnd c (c / 2)) mask
 
-  pairs-even : (j : ℕ) → has pairs (2 * j) ≡ min (has c (2 * j)) (has c (suc (2 * j)))
+  -- where both literals of a variable are there, the pairs have its ~x
+  pub pairs-even : (j : ℕ) → has pairs (2 * j) ≡ min (has c (2 * j)) (has c (suc (2 * j)))
   pairs-even j = rw (has-and (bitAnd c (c / 2)) mask (2 * j), has-and c (c / 2) (2 * j), ← (has-next c (2 * j))) (at (decLt j 6))
     where
       at : Dec (j < 6) → min (min (has c (2 * j)) (has c (suc (2 * j)))) (has mask (2 * j)) ≡ min (has c (2 * j)) (has c (suc (2 * j)))

@@ -12,6 +12,7 @@ use Rattle.fuzzy.specs.Grade.{Grades}
 use Rattle.fuzzy.proofs.Search.{known, both-second}
 use Rattle.sheets.specs.declared.answer.Answer.{Answer}
 use Rattle.sheets.specs.Answer.{done, unless, orElse, firstOf}
+use Rattle.sheets.specs.Listing.{ofSheet, ofPair}
 use Rattle.sheets.specs.Refusal.{firstAtLeast, variables, phrases, codes, scaled, counted, graded, phrased, valueRefusal, questionRefusal}
 
 -- a refusal stands
@@ -120,3 +121,22 @@ module _ (n : ℕ) (F : List ℕ) (p : ℕ) where
       let (d, e₁₂) = all-pass (codes n F) _ e₃ in
       let (f, end) = all-pass (phrased n p) _ e₁₂ in
       (few-variables n a, (ltb-true p (4 ^ n) (holds-of (ltb p (4 ^ n)) 12 p (omega arith) f), codes-below n F d))
+
+-- a sheet in order has at most six variables, and its codes are phrases over them
+pub sheet-in-order : (n : ℕ) (F : List ℕ) → firstOf (ofSheet n F) .number ≡ 0 → (n ≤ 6) × ((q : ℕ) → List·Memᴰ q F → q < 4 ^ n)
+sheet-in-order n F e =
+    let (a, e₂) = all-pass (variables n) _ e in
+    let (b, e₃) = all-pass (phrases F) _ e₂ in
+    let (d, end) = all-pass (codes n F) _ e₃ in
+    (few-variables n a, codes-below n F d)
+
+-- so do two
+pub pair-in-order : (n : ℕ) (A B : List ℕ) → firstOf (ofPair n A B) .number ≡ 0
+    → (n ≤ 6) × ((q : ℕ) → List·Memᴰ q A → q < 4 ^ n) × ((q : ℕ) → List·Memᴰ q B → q < 4 ^ n)
+pair-in-order n A B e =
+    let (a, e₂) = all-pass (variables n) _ e in
+    let (b, e₃) = all-pass (phrases A) _ e₂ in
+    let (d, e₄) = all-pass (phrases B) _ e₃ in
+    let (f, e₅) = all-pass (codes n A) _ e₄ in
+    let (g, end) = all-pass (codes n B) _ e₅ in
+    (few-variables n a, codes-below n A f, codes-below n B g)

@@ -10,6 +10,8 @@ pub const LONG_SHEET: u8 = 2;
 
 pub const FOREIGN_CODE: u8 = 3;
 
+pub const NO_ROOM: u8 = 4;
+
 pub const BAD_SCALE: u8 = 5;
 
 pub const WRONG_COUNT: u8 = 6;

@@ -1,9 +1,13 @@
-// The calls that coach units and reviewers put to a sheet: its value at a vector of grades, and whether a phrase is an implicant.
+// The calls that coach units and reviewers put to a sheet: its value at grades, whether a phrase is an implicant, its primes and cover, and the primes of joins, meets and complements.
 ghost use Rattle.sheets.specs.Value.{ValuePromise};
 ghost use Rattle.sheets.specs.Implicant.{ImplicantPromise};
+ghost use Rattle.sheets.specs.Listing.{ListPromise, JoinPromise, MeetPromise, ComplementPromise};
 
 pub mod answer;
+mod cover;
 mod grade;
+mod listing;
+mod map;
 mod refusal;
 mod vector;
 
@@ -20,6 +24,12 @@ pub struct Asked {
     pub answer: Answer,
     pub verdict: bool,
     pub vector: u16,
+}
+
+// The answer to `list`, `join`, `meet` and `complement`: how many entries the list has, 0 on a refusal.
+pub struct Listed {
+    pub answer: Answer,
+    pub count: usize,
 }
 
 // The value of the sheet at the grades.
@@ -61,4 +71,59 @@ pub fn implicant(n: usize, sheet: &[u16], phrase: u16) -> Asked
         verdict: true,
         vector: 0,
     }
+}
+
+// The sheet's primes by rising code, each with its flag: 1 where document 01's walk leaves it in the cover.
+pub fn list(n: usize, sheet: &[u16], codes: &mut [u16], flags: &mut [u8]) -> Listed
+    ensures { λ r. ⌜ ListPromise n (now (sheet .entry)) (now (codes .entry)) (now (flags .entry)) r (now (sheet .exit)) (now (codes .exit)) (now (flags .exit)) ⌝ }
+{
+    let answer = refusal::of_sheet(n, sheet);
+    if answer.number != answer::DONE {
+        return Listed { answer, count: 0 };
+    }
+    let primes = map::primes(n, map::of_sheet(sheet));
+    let listed = listing::fit(primes, listing::shorter(codes.len(), flags.len()));
+    if listed.answer.number != answer::DONE {
+        return listed;
+    }
+    rows::read(primes, codes);
+    let kept = cover::walk(n, primes, codes, listed.count);
+    listing::flag(kept, codes, listed.count, flags);
+    listed
+}
+
+// The prime list of the larger of two sheets.
+pub fn join(n: usize, first: &[u16], second: &[u16], codes: &mut [u16]) -> Listed
+    ensures { λ r. ⌜ JoinPromise n (now (first .entry)) (now (second .entry)) (now (codes .entry)) r (now (first .exit)) (now (second .exit)) (now (codes .exit)) ⌝ }
+{
+    let answer = refusal::of_pair(n, first, second);
+    if answer.number != answer::DONE {
+        return Listed { answer, count: 0 };
+    }
+    let within = rows::either(map::of_sheet(first), map::of_sheet(second));
+    listing::publish(map::primes(n, within), codes)
+}
+
+// The prime list of the smaller of two sheets.
+pub fn meet(n: usize, first: &[u16], second: &[u16], codes: &mut [u16]) -> Listed
+    ensures { λ r. ⌜ MeetPromise n (now (first .entry)) (now (second .entry)) (now (codes .entry)) r (now (first .exit)) (now (second .exit)) (now (codes .exit)) ⌝ }
+{
+    let answer = refusal::of_pair(n, first, second);
+    if answer.number != answer::DONE {
+        return Listed { answer, count: 0 };
+    }
+    let within = rows::both(map::of_sheet(first), map::of_sheet(second));
+    listing::publish(map::primes(n, within), codes)
+}
+
+// The prime list of the sheet's complement.
+pub fn complement(n: usize, sheet: &[u16], codes: &mut [u16]) -> Listed
+    ensures { λ r. ⌜ ComplementPromise n (now (sheet .entry)) (now (codes .entry)) r (now (sheet .exit)) (now (codes .exit)) ⌝ }
+{
+    let answer = refusal::of_sheet(n, sheet);
+    if answer.number != answer::DONE {
+        return Listed { answer, count: 0 };
+    }
+    let within = rows::others(rows::exchange(map::of_sheet(sheet)));
+    listing::publish(map::primes(n, within), codes)
 }

@@ -4,6 +4,8 @@ ghost use mathlib.Core.Bool.{_&&_};
 ghost use Prim.Native.Nat.{_≤_};
 ghost use lib.Dec.{leb};
 ghost use Rattle.sheets.specs.Refusal.{firstAtLeast, variables, phrases, codes, scaled, counted, graded, phrased, valueRefusal, questionRefusal};
+ghost use Rattle.sheets.specs.Answer.{firstOf};
+ghost use Rattle.sheets.specs.Listing.{ofSheet, ofPair};
 use crate::answer;
 use crate::answer::Answer;
 use crate::vector;
@@ -50,6 +52,37 @@ pub(crate) fn of_question(n: usize, sheet: &[u16], phrase: u16) -> Answer
     let codes = of_codes(n, sheet);
     let phrased = of_phrase(n, phrase);
     answer::or_else(phrases, answer::or_else(codes, phrased))
+}
+
+// The refusals of a sheet to be listed: 1, 2, 3.
+pub(crate) fn of_sheet(n: usize, sheet: &[u16]) -> Answer
+    ensures { λ r. ⌜ r ≡ firstOf (ofSheet n (now (sheet .entry))) ⌝ }
+{
+    let variables = of_variables(n);
+    let phrases = of_phrases(sheet);
+    if variables.number != answer::DONE {
+        return variables;
+    }
+    let codes = of_codes(n, sheet);
+    answer::or_else(phrases, codes)
+}
+
+// The refusals of two sheets: 1; 2 of the first, 2 of the second; 3 of the first, 3 of the second.
+pub(crate) fn of_pair(n: usize, first: &[u16], second: &[u16]) -> Answer
+    ensures { λ r. ⌜ r ≡ firstOf (ofPair n (now (first .entry)) (now (second .entry))) ⌝ }
+{
+    let variables = of_variables(n);
+    let first_phrases = of_phrases(first);
+    let second_phrases = of_phrases(second);
+    if variables.number != answer::DONE {
+        return variables;
+    }
+    let first_codes = of_codes(n, first);
+    let second_codes = of_codes(n, second);
+    answer::or_else(
+        first_phrases,
+        answer::or_else(second_phrases, answer::or_else(first_codes, second_codes)),
+    )
 }
 
 // 1: variables not 1 to 6.
