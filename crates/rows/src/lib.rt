@@ -1,4 +1,6 @@
 // Marks over the 4,096 codes of six variables, as 64 rows of 64 bits: code c is bit c % 64 of row c / 64.
+#![tactic(auto)]
+
 ghost use Rattle.std.specs.Prelude.{◌≡◌, length};
 ghost use Rattle.rows.specs.Pass.{ClosedUp, ClosedDown, Exchanged, Least, Either, Both, Others, Outside, OfSheet, Cut, Removed, Held, Covered};
 ghost use Rattle.rows.specs.Read.{marks_of, read_into};
