@@ -157,7 +157,7 @@ module _ (n : ℕ) (F cs fs : List ℕ) (r : Listed) (F' cs' fs' : List ℕ) (h 
   pub list_given : Done r.answer → Begins r (listed n F) cs cs' × Begins r (flags n (sheet_fn n F)) fs fs' × (F' ≡ F)
   list_given d = (
     begins (of_sheet n F) (listed n F) _ h.answered (listed n F) cs cs' refl h.codes_after d,
-    begins (of_sheet n F) (listed n F) _ h.answered (flags n (sheet_fn n F)) fs fs' (CoverLaws.flags-length n (sheet_fn n F)) h.flags_after d,
+    begins (of_sheet n F) (listed n F) _ h.answered (flags n (sheet_fn n F)) fs fs' (CoverLaws.flags_length n (sheet_fn n F)) h.flags_after d,
     h.sheet_kept,
   )
 
@@ -283,7 +283,7 @@ module _ {n : ℕ} {F ps fs : List ℕ} (c : ListGave n F ps fs) where
 
   -- there is one flag for each entry
   pub one_flag_each : length fs ≡ length ps
-  one_flag_each = rw (list_list c, list_flags c) (CoverLaws.flags-length n (sheet_fn n F))
+  one_flag_each = rw (list_list c, list_flags c) (CoverLaws.flags_length n (sheet_fn n F))
 
   -- the flags mark the cover
   pub list_cover : flagged ps fs ≡ cover n (sheet_fn n F)
@@ -297,7 +297,7 @@ module _ {n : ℕ} {F ps fs : List ℕ} (c : ListGave n F ps fs) where
   pub cover_needs_each : (s : ℕ) → 2 ≤ s → (p : ℕ) → Memᴰ p (flagged ps fs)
       → (v : List ℕ) × Grades s n v × (sheet_value s n (without p (flagged ps fs)) v < sheet_value s n F v)
   cover_needs_each s h p m =
-      let (v, g, low) = CoverLaws.needs-each-everywhere n (sheet_fn n F) s h p (rw list_cover at m) in
+      let (v, g, low) = CoverLaws.needs_each_everywhere n (sheet_fn n F) s h p (rw list_cover at m) in
       (v, g, rw list_cover (rw (CoverLaws.keeps n (sheet_fn n F) (of_sheet_lem n F) s h v g) at low))
 
 -- Demand 3. The lists of join, meet and complement.
@@ -355,7 +355,7 @@ module _ {n : ℕ} {ps : List ℕ} (c : Gave n ps) where
       rw e (
         few,
         le_trans (ListLaws.few n f) (pow-le-pow_right {n = 4} (omega arith) {j = 6} few.1),
-        λ q m. ((ListLaws.in-primes n f q).0 m).0,
+        λ q m. ((ListLaws.in_primes n f q).0 m).0,
       )
 
   -- the checks on it pass
@@ -368,7 +368,7 @@ module _ {n : ℕ} {ps : List ℕ} (c : Gave n ps) where
 
   -- it is its own list
   gave_again : listed n ps ≡ ps
-  gave_again = let (few, (f, o, e)) = gave_primes c in rw e (ListLaws.equal-lists n (sheet_fn n (primes n f)) f (ListLaws.keeps n f o))
+  gave_again = let (few, (f, o, e)) = gave_primes c in rw e (ListLaws.equal_lists n (sheet_fn n (primes n f)) f (ListLaws.keeps n f o))
 
   -- `list` gives it again
   pub list_again : {qs fs : List ℕ} → ListGave n ps qs fs → qs ≡ ps
@@ -377,7 +377,7 @@ module _ {n : ℕ} {ps : List ℕ} (c : Gave n ps) where
 -- two lists that calls gave are the same function exactly when they are equal
 pub gave_same : {n : ℕ} {ps qs : List ℕ} → Gave n ps → Gave n qs → Same n (sheet_fn n ps) (sheet_fn n qs) ↔ (ps ≡ qs)
 gave_same {n = n} {ps = ps} {qs = qs} c d = (
-  λ same. sym (gave_again c) ∙ ListLaws.equal-lists n (sheet_fn n ps) (sheet_fn n qs) same ∙ gave_again d,
+  λ same. sym (gave_again c) ∙ ListLaws.equal_lists n (sheet_fn n ps) (sheet_fn n qs) same ∙ gave_again d,
   λ e s h v g. ap (λ (xs : List ℕ). sheet_value s n xs v) e,
 )
 

@@ -1,4 +1,6 @@
 // The calls that coach units and reviewers put to a sheet: its value at grades, whether a phrase is an implicant, its primes and cover, and the primes of joins, meets and complements.
+#![tactic(auto)]
+
 ghost use Rattle.sheets.specs.Value.{ValuePromise};
 ghost use Rattle.sheets.specs.Implicant.{ImplicantPromise};
 ghost use Rattle.sheets.specs.Listing.{ListPromise, JoinPromise, MeetPromise, ComplementPromise};

@@ -1,0 +1,23 @@
+-- `refusal::of_pair` meets its contract: a first refusal stands, and after it the checks are linked in order.
+use native.Mathlib.Omega.{arith}
+use Rattle.sheets.proofs.Refused.{first_stands, first_passes, link, last_link, few_variables}
+use Rattle.sheets.proofs.refusal.of_pair.Goals as goal
+
+pub returns-then-variables-ne-DONE : goal.returns-then-variables-ne-DONE
+returns-then-variables-ne-DONE c = first_stands _ _ _ c.of_variables-variables.ensures c.if-variables-ne-DONE.true
+
+pub of_codes-first_codes-requires : goal.of_codes-first_codes-requires
+of_codes-first_codes-requires c = few_variables c.args.n (rw c.of_variables-variables.ensures at c.if-variables-ne-DONE.false)
+
+pub of_codes-second_codes-requires : goal.of_codes-second_codes-requires
+of_codes-second_codes-requires c = few_variables c.args.n (rw c.of_variables-variables.ensures at c.if-variables-ne-DONE.false)
+
+pub returns : goal.returns
+returns c =
+    let checked = c in
+    let tested = checked in
+    first_passes _ _ _ _ tested.of_variables-variables.ensures tested.if-variables-ne-DONE.false
+    (link _ _ _ _ _ c.or_else-3.ensures tested.of_phrases-first_phrases.ensures
+    (link _ _ _ _ _ c.or_else-2.ensures tested.of_phrases-second_phrases.ensures
+    (link _ _ _ _ _ c.or_else.ensures checked.of_codes-first_codes.ensures
+    (last_link _ _ _ _ (omega arith) checked.of_codes-second_codes.ensures))))

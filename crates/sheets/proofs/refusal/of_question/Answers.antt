@@ -1,0 +1,28 @@
+-- `refusal::of_question` meets its contract: a first refusal stands, and after it the checks are linked in order.
+use native.Mathlib.Omega.{arith}
+use Rattle.sheets.proofs.Refused.{first_stands, first_passes, link, last_link, few_variables}
+use Rattle.sheets.specs.Refusal.{question_refusal}
+use Rattle.sheets.proofs.refusal.of_question.Goals as goal
+
+pub returns-then-variables-ne-DONE : goal.returns-then-variables-ne-DONE
+unfolding question_refusal
+returns-then-variables-ne-DONE c = first_stands _ _ _ c.of_variables-variables.ensures c.if-variables-ne-DONE.true
+
+pub of_codes-codes-requires : goal.of_codes-codes-requires
+of_codes-codes-requires c =
+    few_variables c.args.n (rw c.of_variables-variables.ensures at c.if-variables-ne-DONE.false)
+
+pub of_phrase-phrased-requires : goal.of_phrase-phrased-requires
+of_phrase-phrased-requires c =
+    few_variables c.args.n
+    (rw c.of_variables-variables.ensures at c.if-variables-ne-DONE.false)
+
+pub returns : goal.returns
+unfolding question_refusal
+returns c =
+    let checked = c in
+    let tested = checked in
+    first_passes _ _ _ _ tested.of_variables-variables.ensures tested.if-variables-ne-DONE.false
+    (link _ _ _ _ _ c.or_else-2.ensures tested.of_phrases-phrases.ensures
+    (link _ _ _ _ _ c.or_else.ensures checked.of_codes-codes.ensures
+    (last_link _ _ _ _ (omega arith) checked.of_phrase-phrased.ensures)))

@@ -1,0 +1,29 @@
+-- `vector::level` meets its contract: the code without pairs is that of the literals at least 2, and whether it subsumes the phrase says if the phrase is 2.
+use mathlib.Core.Path.{◌≡◌, ◌∙◌}
+use Rattle.fuzzy.proofs.Reach.{reach}
+use Rattle.fuzzy.specs.Vector.{vector}
+use Rattle.sheets.proofs.Above.{level_whole, level_half}
+use Rattle.sheets.proofs.Level.{reach_six, whole_of}
+use Rattle.sheets.proofs.vector.level.Goals as goal
+use Rattle.sheets.proofs.vector.level.Goals.{After-unpaired-whole}
+
+pub unpaired-whole-requires : goal.unpaired-whole-requires
+unpaired-whole-requires c = rw c.reached-half.ensures (reach_six c.args.n c.args.v c.requires.n_bound 1)
+
+-- the code without its pairs is that of the literals at least 2
+whole : (c : After-unpaired-whole) → c.unpaired-whole.result ≡ reach 2 2 (vector c.args.n c.args.v)
+whole c =
+    let start = c in
+    whole_of start.args.n start.args.v start.requires.n_bound c.reached-half.result c.unpaired-whole.result
+    c.reached-half.ensures c.unpaired-whole.ensures.0 c.unpaired-whole.ensures.1
+
+pub returns-then-whole-phrase : goal.returns-then-whole-phrase
+returns-then-whole-phrase c =
+    let start = c in
+    whole c.before ∙ level_whole start.args.n start.args.v start.args.phrase start.requires.phrase_bound (rw (whole c.before) at c.if-whole-phrase.true)
+
+pub returns : goal.returns
+returns c =
+    let start = c in
+    c.reached-half.ensures
+    ∙ level_half start.args.n start.args.v start.args.phrase start.requires.phrase_bound (rw (whole c.before) at c.if-whole-phrase.false)
