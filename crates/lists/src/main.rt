@@ -1,5 +1,7 @@
 // Puts document 01's cases and edges to the four calls of `sheets` that give a list and prints the answers, one line a case.
 // After the case's name: number, detail and count; every code that was lent, those after the list behind a bar; and for `list`, after `flags`, every flag in the same way.
+#![tactic(auto)]
+
 mod codes;
 mod known;
 mod lengths;
@@ -10,26 +12,28 @@ mod show;
 mod tables;
 mod variables;
 
-fn main() {
-    known::lists();
-    known::walks();
-    known::operations();
-    rooms::lists();
-    rooms::empty();
-    rooms::operations();
-    variables::lists();
-    variables::joins();
-    variables::meets();
-    variables::complements();
-    lengths::one_sheet();
-    lengths::joins();
-    lengths::meets();
-    codes::one_sheet();
-    codes::joins();
-    codes::meets();
-    orders::one_sheet();
-    orders::joins();
-    orders::meets();
-    repeats::one_sheet();
-    repeats::two_sheets();
+use std::io;
+
+fn main(rt: HostRuntime) -> io::Result<()> {
+    known::lists(&rt)?;
+    known::walks(&rt)?;
+    known::operations(&rt)?;
+    rooms::lists(&rt)?;
+    rooms::empty(&rt)?;
+    rooms::operations(&rt)?;
+    variables::lists(&rt)?;
+    variables::joins(&rt)?;
+    variables::meets(&rt)?;
+    variables::complements(&rt)?;
+    lengths::one_sheet(&rt)?;
+    lengths::joins(&rt)?;
+    lengths::meets(&rt)?;
+    codes::one_sheet(&rt)?;
+    codes::joins(&rt)?;
+    codes::meets(&rt)?;
+    orders::one_sheet(&rt)?;
+    orders::joins(&rt)?;
+    orders::meets(&rt)?;
+    repeats::one_sheet(&rt)?;
+    repeats::two_sheets(&rt)
 }

@@ -1,101 +1,116 @@
 // Several refusals at once: document 01's order decides which one is given.
+use crate::show;
 use crate::show::{CODE, FLAG};
-use crate::{show, tables};
+use crate::tables::{long, longer};
+use std::io;
 
 // One sheet: 1, 2, 3, 4.
-pub(crate) fn one_sheet() {
+pub(crate) fn one_sheet(rt: &impl Print) -> io::Result<()> {
     show::list(
-        b"list-1-before-2",
+        rt,
+        "list-1-before-2",
         7,
-        &tables::long(65535),
+        &long(65535),
         &mut [CODE; 0],
         &mut [FLAG; 0],
-    );
+    )?;
     show::list(
-        b"list-2-before-3",
+        rt,
+        "list-2-before-3",
         2,
-        &tables::long(65535),
+        &long(65535),
         &mut [CODE; 0],
         &mut [FLAG; 0],
-    );
+    )?;
     show::list(
-        b"list-3-before-4",
+        rt,
+        "list-3-before-4",
         2,
         &[10, 9, 16],
         &mut [CODE; 0],
         &mut [FLAG; 0],
-    );
-    show::complement(
-        b"complement-1-before-2",
-        7,
-        &tables::long(65535),
-        &mut [CODE; 0],
-    );
-    show::complement(
-        b"complement-2-before-3",
-        2,
-        &tables::long(65535),
-        &mut [CODE; 0],
-    );
-    show::complement(b"complement-3-before-4", 2, &[10, 9, 16], &mut [CODE; 0]);
+    )?;
+    show::complement(rt, "complement-1-before-2", 7, &long(65535), &mut [CODE; 0])?;
+    show::complement(rt, "complement-2-before-3", 2, &long(65535), &mut [CODE; 0])?;
+    show::complement(rt, "complement-3-before-4", 2, &[10, 9, 16], &mut [CODE; 0])
 }
 
 // Two sheets, both at fault, in each order: 1; 2 of the first, 2 of the second; 3 of the first, 3 of the second; 4.
-pub(crate) fn joins() {
+pub(crate) fn joins(rt: &impl Print) -> io::Result<()> {
     show::join(
-        b"join-1-before-2",
+        rt,
+        "join-1-before-2",
         7,
-        &tables::long(65535),
-        &tables::longer(65535),
+        &long(65535),
+        &longer(65535),
         &mut [CODE; 0],
-    );
+    )?;
     show::join(
-        b"join-2-and-2",
+        rt,
+        "join-2-and-2",
         2,
-        &tables::long(65535),
-        &tables::longer(65535),
+        &long(65535),
+        &longer(65535),
         &mut [CODE; 0],
-    );
+    )?;
     show::join(
-        b"join-2-and-2-swapped",
+        rt,
+        "join-2-and-2-swapped",
         2,
-        &tables::longer(65535),
-        &tables::long(65535),
+        &longer(65535),
+        &long(65535),
         &mut [CODE; 0],
-    );
-    show::join(b"join-2-and-3", 2, &tables::long(0), &[16], &mut [CODE; 0]);
-    show::join(b"join-3-and-2", 2, &[16], &tables::long(0), &mut [CODE; 0]);
-    show::join(b"join-3-and-3", 2, &[10, 16], &[16], &mut [CODE; 0]);
-    show::join(b"join-3-and-3-swapped", 2, &[16], &[10, 16], &mut [CODE; 0]);
-    show::join(b"join-3-before-4", 2, &[10], &[9, 16], &mut [CODE; 0]);
+    )?;
+    show::join(rt, "join-2-and-3", 2, &long(0), &[16], &mut [CODE; 0])?;
+    show::join(rt, "join-3-and-2", 2, &[16], &long(0), &mut [CODE; 0])?;
+    show::join(rt, "join-3-and-3", 2, &[10, 16], &[16], &mut [CODE; 0])?;
+    show::join(
+        rt,
+        "join-3-and-3-swapped",
+        2,
+        &[16],
+        &[10, 16],
+        &mut [CODE; 0],
+    )?;
+    show::join(rt, "join-3-before-4", 2, &[10], &[9, 16], &mut [CODE; 0])
 }
 
 // The meet in the same way.
-pub(crate) fn meets() {
+pub(crate) fn meets(rt: &impl Print) -> io::Result<()> {
     show::meet(
-        b"meet-1-before-2",
+        rt,
+        "meet-1-before-2",
         7,
-        &tables::long(65535),
-        &tables::longer(65535),
+        &long(65535),
+        &longer(65535),
         &mut [CODE; 0],
-    );
+    )?;
     show::meet(
-        b"meet-2-and-2",
+        rt,
+        "meet-2-and-2",
         2,
-        &tables::long(65535),
-        &tables::longer(65535),
+        &long(65535),
+        &longer(65535),
         &mut [CODE; 0],
-    );
+    )?;
     show::meet(
-        b"meet-2-and-2-swapped",
+        rt,
+        "meet-2-and-2-swapped",
         2,
-        &tables::longer(65535),
-        &tables::long(65535),
+        &longer(65535),
+        &long(65535),
         &mut [CODE; 0],
-    );
-    show::meet(b"meet-2-and-3", 2, &tables::long(0), &[16], &mut [CODE; 0]);
-    show::meet(b"meet-3-and-2", 2, &[16], &tables::long(0), &mut [CODE; 0]);
-    show::meet(b"meet-3-and-3", 2, &[10, 16], &[16], &mut [CODE; 0]);
-    show::meet(b"meet-3-and-3-swapped", 2, &[16], &[10, 16], &mut [CODE; 0]);
-    show::meet(b"meet-3-before-4", 2, &[10], &[9, 16], &mut [CODE; 0]);
+    )?;
+    show::meet(rt, "meet-2-and-3", 2, &long(0), &[16], &mut [CODE; 0])?;
+    show::meet(rt, "meet-3-and-2", 2, &[16], &long(0), &mut [CODE; 0])?;
+    show::meet(rt, "meet-3-and-3", 2, &[10, 16], &[16], &mut [CODE; 0])?;
+    show::meet(
+        rt,
+        "meet-3-and-3-swapped",
+        2,
+        &[16],
+        &[10, 16],
+        &mut [CODE; 0],
+    )?;
+    show::meet(rt, "meet-3-before-4", 2, &[10], &[9, 16], &mut [CODE; 0])
 }
