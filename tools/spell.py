@@ -1,7 +1,7 @@
 #!/usr/bin/env python3
 """Turns the names that this repository declares to the kit's spelling: words in snake case, types and modules in camel case.
 
-usage: python3 tools/spell.py [--dry]     at the top of the repository, once, after /opt/rattle/port/port.py
+usage: python3 tools/spell.py [--dry]     at the top of the repository, once, after the kit's port.py
 
 The names: what specs/*.antt and proofs/*.antt of each crate declare (definitions, lemmas, fields, helpers), where they hold a hyphen or a capital
 inside. They are turned in .antt files, in the ghost items and clauses of .rt files, in must-fail edits and, between backticks, in the pages.
