@@ -1,12 +1,12 @@
 -- Vectors of scale 2 by number, and the decisions that they allow.
---   vector n k       the vector with number k: its n digits in base 3
---   above n f p k    whether the phrase is above f at vector k
+--   vector n k        the vector with number k: its n digits in base 3
+--   above n f p k     whether the phrase is above f at vector k
 --   first_from t k m  the first of the m numbers from k on that passes the test, k + m where none does
---   first t m        the least number below m that passes the test, m where none does
---   lowest n f p     the lowest vector at which the phrase is above f, 3 ^ n where there is none
---   implicant? n f p whether the phrase is above f at no vector
---   spare n f p k    whether the phrase has literal k and is an implicant without it
---   prime? n f p     whether the phrase is an implicant that can lose no literal
+--   first t m         the least number below m that passes the test, m where none does
+--   lowest n f p      the lowest vector at which the phrase is above f, 3 ^ n where there is none
+--   implicant? n f p  whether the phrase is above f at no vector
+--   spare n f p k     whether the phrase has literal k and is an implicant without it
+--   prime? n f p      whether the phrase is an implicant that can lose no literal
 use Rattle.std.specs.Prelude.{ℕ, zero, suc, ◌*◌, ◌^◌, Bool, cond, ◌&&◌, List, ltb, eqb}
 use Rattle.fuzzy.specs.Phrase.{digits, has, less}
 use Rattle.fuzzy.specs.Grade.{phrase_value}

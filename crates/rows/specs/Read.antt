@@ -1,9 +1,9 @@
 -- The marked codes below a limit, as a list, and how a list is written into a lent buffer.
---   is_marked m c      whether code c is marked
---   marks_of m limit   the marked codes below the limit, rising
+--   is_marked m c       whether code c is marked
+--   marks_of m limit    the marked codes below the limit, rising
 --   row_marks row base  the codes that a row marks, its first code being base, rising
---   written new old    a buffer that held old, after new was written at its front
---   read_into new old  the same where new fits, else old
+--   written new old     a buffer that held old, after new was written at its front
+--   read_into new old   the same where new fits, else old
 use Rattle.std.specs.Prelude.{Bool, cond, ℕ, ◌-◌, List, ◌++◌, eqb, leb, length, drop}
 use Rattle.fuzzy.specs.Phrase.{has}
 use Rattle.fuzzy.specs.Primes.{select}

@@ -43,7 +43,7 @@ pub(crate) fn read(rows: [u64; 64], codes: &mut [u16]) -> usize
 // Writes the codes that a row marks, its first code being `base`, from place `at` of the buffer on, and gives the place after them.
 fn read_row(row: u64, base: u16, codes: &mut [u16], at: usize) -> usize
     requires base_bound { base ≤ 4032 }
-    requires base_in_bounds { at + length (row_marks row base) ≤ length codes.old }
+    requires room { at + length (row_marks row base) ≤ length codes.old }
     ensures { (result ≡ at + length (row_marks row base)) × (codes.new ≡ sets codes.old at (row_marks row base)) }
 {
     let mut rest = row;

@@ -88,7 +88,7 @@ few_variables n e =
 -- the sheet's codes are phrases over n variables
 pub codes_below : (n : ℕ) (F : List ℕ) → (codes n F).number ≡ 0 → (q : ℕ) → Memᴰ q F → q < 4 ^ n
 codes_below n F e =
-    all_below (4 ^ n) F (eqb-true (first_at_least (4 ^ n) F) (length F) (holds_of (eqb (first_at_least (4 ^ n) F) (length F)) 3 (first_at_least (4 ^ n) F) (omega arith) e))
+    all_below (4 ^ n) F (eqb-true (first_at_least (4 ^ n) F) (length F) (holds_of (eqb (first_at_least (4 ^ n) F) (length F)) 3 _ (omega arith) e))
 
 module _ (n : ℕ) (F : List ℕ) (s : ℕ) (v : List ℕ) where
   -- where nothing is refused all is in order
@@ -107,7 +107,7 @@ module _ (n : ℕ) (F : List ℕ) (s : ℕ) (v : List ℕ) where
           λ x m. omega (
             arith,
             all_below (s + 1) v (eqb-true (first_at_least (s + 1) v) (length v)
-                (holds_of (eqb (first_at_least (s + 1) v) (length v)) 7 (first_at_least (s + 1) v) (omega arith) h)) x m,
+                (holds_of (eqb (first_at_least (s + 1) v) (length v)) 7 _ (omega arith) h)) x m,
           ),
         ),
       )

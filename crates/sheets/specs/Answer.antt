@@ -1,8 +1,8 @@
 -- Answers: a number, 0 where the call is done, and a detail.
 --   done                the call is done
 --   unless holds k d    done where the test holds, else refusal k with detail d
---   or_else a b          the first where it is a refusal, else the second
---   first_of answers     the first that is a refusal, done where there is none
+--   or_else a b         the first where it is a refusal, else the second
+--   first_of answers    the first that is a refusal, done where there is none
 use Rattle.std.specs.Prelude.{ℕ, Bool, cond, List, [], ◌∷◌, eqb}
 use Rattle.sheets.specs.declared.answer.Answer.{Answer}
 

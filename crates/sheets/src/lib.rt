@@ -39,7 +39,7 @@ pub struct Listed {
 
 // The value of the sheet at the grades.
 pub fn value(n: usize, sheet: &[u16], scale: u16, grades: &[u16]) -> Valued
-    ensures { ValuePromise n sheet.now scale grades.now result sheet.now grades.now }
+    ensures { ValuePromise n sheet.now scale grades.now result sheet.exit.now grades.exit.now }
 {
     let answer = refusal::of_value(n, sheet, scale, grades);
     if answer.number != answer::DONE {
@@ -53,7 +53,7 @@ pub fn value(n: usize, sheet: &[u16], scale: u16, grades: &[u16]) -> Valued
 
 // Whether the phrase is an implicant of the sheet, with a vector that shows why not.
 pub fn implicant(n: usize, sheet: &[u16], phrase: u16) -> Asked
-    ensures { ImplicantPromise n sheet.now phrase result sheet.now }
+    ensures { ImplicantPromise n sheet.now phrase result sheet.exit.now }
 {
     let answer = refusal::of_question(n, sheet, phrase);
     if answer.number != answer::DONE {
@@ -80,7 +80,7 @@ pub fn implicant(n: usize, sheet: &[u16], phrase: u16) -> Asked
 
 // The sheet's primes by rising code, each with its flag: 1 where document 01's walk leaves it in the cover.
 pub fn list(n: usize, sheet: &[u16], codes: &mut [u16], flags: &mut [u8]) -> Listed
-    ensures { ListPromise n sheet.now codes.old flags.old result sheet.now codes.new flags.new }
+    ensures { ListPromise n sheet.now codes.old flags.old result sheet.exit.now codes.new flags.new }
 {
     let answer = refusal::of_sheet(n, sheet);
     if answer.number != answer::DONE {
@@ -99,7 +99,7 @@ pub fn list(n: usize, sheet: &[u16], codes: &mut [u16], flags: &mut [u8]) -> Lis
 
 // The prime list of the larger of two sheets.
 pub fn join(n: usize, first: &[u16], second: &[u16], codes: &mut [u16]) -> Listed
-    ensures { JoinPromise n first.now second.now codes.old result first.now second.now codes.new }
+    ensures { JoinPromise n first.now second.now codes.old result first.exit.now second.exit.now codes.new }
 {
     let answer = refusal::of_pair(n, first, second);
     if answer.number != answer::DONE {
@@ -111,7 +111,7 @@ pub fn join(n: usize, first: &[u16], second: &[u16], codes: &mut [u16]) -> Liste
 
 // The prime list of the smaller of two sheets.
 pub fn meet(n: usize, first: &[u16], second: &[u16], codes: &mut [u16]) -> Listed
-    ensures { MeetPromise n first.now second.now codes.old result first.now second.now codes.new }
+    ensures { MeetPromise n first.now second.now codes.old result first.exit.now second.exit.now codes.new }
 {
     let answer = refusal::of_pair(n, first, second);
     if answer.number != answer::DONE {
@@ -123,7 +123,7 @@ pub fn meet(n: usize, first: &[u16], second: &[u16], codes: &mut [u16]) -> Liste
 
 // The prime list of the sheet's complement.
 pub fn complement(n: usize, sheet: &[u16], codes: &mut [u16]) -> Listed
-    ensures { ComplementPromise n sheet.now codes.old result sheet.now codes.new }
+    ensures { ComplementPromise n sheet.now codes.old result sheet.exit.now codes.new }
 {
     let answer = refusal::of_sheet(n, sheet);
     if answer.number != answer::DONE {

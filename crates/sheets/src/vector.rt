@@ -12,7 +12,7 @@ ghost use Rattle.fuzzy.proofs.Within.{flip};
 pub(crate) fn lowest(n: usize, sheet: &[u16], phrase: u16) -> u16
     requires n_bound { n ≤ 6 }
     requires phrase_bound { phrase < 4 ^ n }
-    requires by_index { (q : ℕ) → Memᴰ q sheet.now → q < 4 ^ n }
+    requires codes_bound { (q : ℕ) → Memᴰ q sheet.now → q < 4 ^ n }
     ensures { result ≡ lowest n (sheet_fn n sheet.now) phrase }
 {
     let count = power(3, n);

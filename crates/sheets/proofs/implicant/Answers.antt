@@ -11,7 +11,7 @@ pub lowest-lowest-requires : goal.lowest-lowest-requires
 lowest-lowest-requires c =
     let a = c.args in
     let (few, (below, all)) = question_in_order a.n a.sheet.now a.phrase (rw c.of_question-answer.ensures at c.if-answer-ne-DONE.false) in
-    record { n_bound = few; phrase_bound = below; by_index = all }
+    record { n_bound = few; phrase_bound = below; codes_bound = all }
 
 pub power-requires : goal.power-requires
 power-requires c =

@@ -26,7 +26,7 @@ read_row-at-requires c =
     let e = left_length at.args.rows l.i (omega arith) in
     record {
       base_bound = omega arith;
-      base_in_bounds = omega (arith, e, l.invariant.1, l.invariant.2, at.if-codes-total.false, at.count-total.ensures);
+      room = omega (arith, e, l.invariant.1, l.invariant.2, at.if-codes-total.false, at.count-total.ensures);
     }
 
 pub loop-i-preserved : goal.loop-i-preserved

@@ -34,10 +34,10 @@ pub overflow_add-codes : goal.overflow_add-codes
 overflow_add-codes c = omega (arith, trailing_le 64 c.loop-rest.rest, c.requires.base_bound)
 
 pub bounds-codes-next : goal.bounds-codes-next
-bounds-codes-next c = omega (arith, one_less c, c.requires.base_in_bounds, c.loop-rest.invariant)
+bounds-codes-next c = omega (arith, one_less c, c.requires.room, c.loop-rest.invariant)
 
 pub overflow_add-next : goal.overflow_add-next
-overflow_add-next c = omega (arith, one_less c, c.requires.base_in_bounds, c.loop-rest.invariant)
+overflow_add-next c = omega (arith, one_less c, c.requires.room, c.loop-rest.invariant)
 
 pub loop-rest-smaller : goal.loop-rest-smaller
 loop-rest-smaller c = omega (arith, positive c, and_le_r c.loop-rest.rest (c.loop-rest.rest - 1))

@@ -27,7 +27,7 @@ vectors-preserved-then-level-q c =
     let m = at_member a.sheet.now j (omega arith) in
     let q = get_or a.sheet.now j 0 in
     let e = covered a.n v.v a.phrase start.requires.phrase_bound a.sheet.now at.level-level.result at.level-level.ensures q m
-    (start.requires.by_index q m) c.if-level-q.true in (
+    (start.requires.codes_bound q m) c.if-level-q.true in (
       omega arith,
       rw c.loop-j.invariant.0
           (v.invariant.1 ∙ scan_next (above a.n (sheet_fn a.n a.sheet.now) a.phrase) v.v
@@ -52,7 +52,7 @@ returns-then-level-phrase c =
     let v = at.vectors in
     let all : c.loop-j.j ≡ length a.sheet.now = omega arith in
     let e = uncovered a.n v.v a.phrase start.requires.phrase_bound a.sheet.now at.level-level.result at.level-level.ensures
-    start.requires.by_index c.if-level-phrase.true (λ k l. c.loop-j.invariant.2 k (omega arith)) in
+    start.requires.codes_bound c.if-level-phrase.true (λ k l. c.loop-j.invariant.2 k (omega arith)) in
     c.loop-j.invariant.0
     ∙ sym (v.invariant.1 ∙ scan_stop (above a.n (sheet_fn a.n a.sheet.now) a.phrase) v.v
     at.power-count.result at.vectors-test.true e)
