@@ -138,11 +138,11 @@ none_at_least limit [] h = refl
 none_at_least limit (x ∷ xs) h =
     rw (lt-leb limit x (h x (Memᴰ.head refl)), none_at_least limit xs (λ y m. h y (Memᴰ.tail m)))
 
--- the check of entries passes exactly when all are below the limit
-entries_pass : (limit k : ℕ) (xs : List ℕ) → 0 < k
-    → Done (unless (eqb (first_at_least limit xs) (length xs)) k (first_at_least limit xs)) ↔ ((x : ℕ) → Memᴰ x xs → x < limit)
-entries_pass limit k xs l =
-    let test = check_passes (eqb (first_at_least limit xs) (length xs)) k (first_at_least limit xs) l in (
+-- the check of entries passes exactly when all are below the limit, whatever its detail
+entries_pass : (limit k d : ℕ) (xs : List ℕ) → 0 < k
+    → Done (unless (eqb (first_at_least limit xs) (length xs)) k d) ↔ ((x : ℕ) → Memᴰ x xs → x < limit)
+entries_pass limit k d xs l =
+    let test = check_passes (eqb (first_at_least limit xs) (length xs)) k d l in (
       λ e. all_below limit xs (eqb-true (first_at_least limit xs) (length xs) (test.0 e)),
       λ h. test.1 (eq-eqb (first_at_least limit xs) (length xs) (none_at_least limit xs h)),
     )
@@ -163,7 +163,7 @@ phrases_pass F =
 
 -- 3 exactly when some code is 4 ^ n or more
 pub codes_pass : (n : ℕ) (F : List ℕ) → Done (codes n F) ↔ Codes n F
-codes_pass n F = entries_pass (4 ^ n) 3 F (omega arith)
+codes_pass n F = entries_pass (4 ^ n) 3 _ F (omega arith)
 
 -- 4 exactly when the entries do not fit
 pub fitted_pass : (k room : ℕ) → Done (fitted k room) ↔ (k ≤ room)
@@ -187,7 +187,7 @@ counted_pass n v =
 -- 7 exactly when some grade is above the scale
 pub graded_pass : (s : ℕ) (v : List ℕ) → Done (graded s v) ↔ ((g : ℕ) → Memᴰ g v → g ≤ s)
 graded_pass s v =
-    let test = entries_pass (s + 1) 7 v (omega arith) in
+    let test = entries_pass (s + 1) 7 _ v (omega arith) in
     (λ e g m. omega (arith, test.0 e g m), λ h. test.1 (λ g m. omega (arith, h g m)))
 
 -- 12 exactly when the phrase asked about is 4 ^ n or more

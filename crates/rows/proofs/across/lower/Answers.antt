@@ -1,4 +1,4 @@
--- `across::lower` meets its contract. The loop's invariant: the rows before i are lowered, the others as they came.
+-- `across::lower` meets its contract.
 use borrow.Author.Rules.{rules}
 use native.Mathlib.Omega.{arith}
 use Rattle.rows.proofs.Rows.{through_start, lowers, one_shifted, lower_fits, lower_there, lower_absent, lower_end}
@@ -10,21 +10,13 @@ loop-i-init c = through_start (lowers c.args.k c.args.rows) c.args.rows (search 
 
 -- the row with the literal is there
 pub overflow_add-out : goal.overflow_add-out
-overflow_add-out c =
-    let k = c.args.k in
-    let there = lower_fits k c.loop-i.i _ c.requires c.loop-i-test.true (one_shifted k c.requires) c.if-i-step-eq0.true in
-    omega (arith, there)
+overflow_add-out c = omega (arith, lower_fits _ _ _ c.requires c.loop-i-test.true (one_shifted _ c.requires) c.if-i-step-eq0.true)
 
 pub offset_bounds-rows-i : goal.offset_bounds-rows-i
-offset_bounds-rows-i c =
-    let k = c.args.k in
-    let there = lower_fits k c.loop-i.i _ c.requires c.loop-i-test.true (one_shifted k c.requires) c.if-i-step-eq0.true in
-    omega (arith, there)
+offset_bounds-rows-i c = omega (arith, lower_fits _ _ _ c.requires c.loop-i-test.true (one_shifted _ c.requires) c.if-i-step-eq0.true)
 
 pub bounds-rows-i : goal.bounds-rows-i
-bounds-rows-i c =
-    let k = c.args.k in
-    lower_fits k c.loop-i.i _ c.requires c.loop-i-test.true (one_shifted k c.requires) c.if-i-step-eq0.true
+bounds-rows-i c = lower_fits _ _ _ c.requires c.loop-i-test.true (one_shifted _ c.requires) c.if-i-step-eq0.true
 
 pub loop-i-preserved : goal.loop-i-preserved
 loop-i-preserved c =

@@ -1,4 +1,4 @@
--- `across::lower` meets its contract. The loop's invariant: the rows before i are lowered, the others as they came.
+-- The loop's invariant: the rows before i are lowered, the others as they came.
 use Prim.Native.Nat.{◌-◌}
 use Rattle.rows.proofs.Rows.{Through, lowers}
 use Rattle.rows.proofs.across.lower.Given as goal

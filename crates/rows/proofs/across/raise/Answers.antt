@@ -1,4 +1,4 @@
--- `across::raise` meets its contract. The loop's invariant: the rows before i are raised, the others as they came.
+-- `across::raise` meets its contract.
 use borrow.Author.Rules.{rules}
 use native.Mathlib.Omega.{arith}
 use Rattle.rows.proofs.Rows.{through_start, raises, one_shifted, raise_fits, raise_there, raise_absent, raise_end}

@@ -1,4 +1,4 @@
--- `across::raise` meets its contract. The loop's invariant: the rows before i are raised, the others as they came.
+-- The loop's invariant: the rows before i are raised, the others as they came.
 use Prim.Native.Nat.{◌-◌}
 use Rattle.rows.proofs.Rows.{Through, raises}
 use Rattle.rows.proofs.across.raise.Given as goal

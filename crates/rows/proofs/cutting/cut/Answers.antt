@@ -1,5 +1,4 @@
--- `cutting::cut` meets its contract. The loop's invariant: the rows before i are as they were up to the first that is cleared,
--- and empty from there on.
+-- `cutting::cut` meets its contract.
 use borrow.Author.Rules.{rules}
 use mathlib.Core.Path.{refl}
 use Prim.Native.Nat.{◌^◌}
@@ -23,10 +22,9 @@ loop-i-preserved c =
 
 pub returns : goal.returns
 returns c =
-    let at = c in
     let l = c.loop-i in
-    let a = at.args in
-    let x = at.first_row.result in
+    let a = c.args in
+    let x = c.first_row.result in
     let e = c.row_count-i.result in
-    cut_rows a.rows (4 ^ a.n) x e (search rules) at.first_row.ensures c.row_count-i.ensures l.out
+    cut_rows a.rows (4 ^ a.n) x e (search rules) c.first_row.ensures c.row_count-i.ensures l.out
     (given_all (cleared e (masked a.rows x)) (masked a.rows x) l.i l.out (omega arith) l.invariant.1)

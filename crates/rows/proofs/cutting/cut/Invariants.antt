@@ -1,5 +1,4 @@
--- `cutting::cut` meets its contract. The loop's invariant: the rows before i are as they were up to the first that is cleared,
--- and empty from there on.
+-- The loop's invariant: the rows before i are as they were up to the first that is cleared, and empty from there on.
 use Prim.Native.Nat.{◌-◌, ◌≤◌}
 use Rattle.rows.proofs.EachRow.{Given}
 use Rattle.rows.proofs.LowCodes.{cleared}

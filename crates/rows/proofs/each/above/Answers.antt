@@ -1,4 +1,4 @@
--- `each::above` meets its contract. The loop's invariant: the rows before i are raised, the others as they came.
+-- `each::above` meets its contract.
 use borrow.Author.Rules.{rules}
 use native.Mathlib.Omega.{arith}
 use Rattle.rows.proofs.Rows.{through_start, through_next, above_end}

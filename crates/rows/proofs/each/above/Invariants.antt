@@ -1,4 +1,4 @@
--- `each::above` meets its contract. The loop's invariant: the rows before i are raised, the others as they came.
+-- The loop's invariant: the rows before i are raised, the others as they came.
 use Prim.Native.Nat.{◌-◌}
 use Rattle.rows.proofs.Rows.{Pass, Through}
 use Rattle.rows.specs.Stage.{raised}

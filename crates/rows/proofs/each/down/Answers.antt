@@ -1,4 +1,4 @@
--- `each::down` meets its contract. The loop's invariant: the rows before i are closed downwards, the others as they came.
+-- `each::down` meets its contract.
 use borrow.Author.Rules.{rules}
 use native.Mathlib.Omega.{arith}
 use Rattle.rows.proofs.Rows.{through_start, through_next, down_end}

@@ -1,4 +1,4 @@
--- `each::down` meets its contract. The loop's invariant: the rows before i are closed downwards, the others as they came.
+-- The loop's invariant: the rows before i are closed downwards, the others as they came.
 use Prim.Native.Nat.{◌-◌}
 use Rattle.rows.proofs.Rows.{Pass, Through}
 use Rattle.rows.specs.Stage.{closed_down}

@@ -1,4 +1,4 @@
--- `each::up` meets its contract. The loop's invariant: the rows before i are closed upwards, the others as they came.
+-- `each::up` meets its contract.
 use borrow.Author.Rules.{rules}
 use native.Mathlib.Omega.{arith}
 use Rattle.rows.proofs.Rows.{through_start, through_next, up_end}

@@ -1,4 +1,4 @@
--- `each::without` meets its contract. The loop's invariant: the rows before i are without those of the other square, the rest as they came.
+-- `each::without` meets its contract.
 use borrow.Author.Rules.{rules}
 use native.Mathlib.Omega.{arith}
 use lib.ListN.{get_or}

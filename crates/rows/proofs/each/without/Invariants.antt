@@ -1,4 +1,4 @@
--- `each::without` meets its contract. The loop's invariant: the rows before i are without those of the other square, the rest as they came.
+-- The loop's invariant: the rows before i are without those of the other square, the rest as they came.
 use Prim.Native.Nat.{◌-◌}
 use Rattle.rows.proofs.Rows.{Through, without}
 use Rattle.rows.proofs.each.without.Given as goal

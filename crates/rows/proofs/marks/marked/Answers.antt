@@ -1,4 +1,4 @@
--- `marks::marked` meets its contract. The loop's invariant: the codes of the sheet before i are marked.
+-- `marks::marked` meets its contract.
 use mathlib.Core.Path.{◌≡◌, refl}
 use native.Mathlib.Omega.{arith}
 use lib.ListN.{length, get_or, replicate}

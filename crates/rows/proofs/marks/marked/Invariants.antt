@@ -1,4 +1,4 @@
--- `marks::marked` meets its contract. The loop's invariant: the codes of the sheet before i are marked.
+-- The loop's invariant: the codes of the sheet before i are marked.
 use mathlib.Core.Path.{◌≡◌}
 use Prim.Native.Nat.{◌-◌, ◌≤◌}
 use lib.ListN.{length, take}

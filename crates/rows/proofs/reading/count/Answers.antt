@@ -1,4 +1,4 @@
--- `reading::count` meets its contract. The loop's invariant: the total is the number of the marked codes in the rows before i.
+-- `reading::count` meets its contract.
 use mathlib.Core.Path.{◌≡◌, ap, ◌∙◌}
 use Prim.Native.Nat.{ℕ, ◌+◌, ◌*◌}
 use native.Mathlib.Omega.{arith}

@@ -1,4 +1,4 @@
--- `reading::count` meets its contract. The loop's invariant: the total is the number of the marked codes in the rows before i.
+-- The loop's invariant: the total is the number of the marked codes in the rows before i.
 use mathlib.Core.Path.{◌≡◌}
 use Prim.Native.Nat.{◌-◌, ◌*◌, ◌≤◌}
 use lib.ListN.{length}

@@ -1,5 +1,4 @@
--- `reading::read` meets its contract. The loop's invariant: writing the codes of the rows from i on after those that are written
--- gives what writing all gives.
+-- `reading::read` meets its contract.
 use mathlib.Core.Path.{refl, sym, ap, ◌∙◌}
 use native.Mathlib.Omega.{arith}
 use lib.ListN.{length}
@@ -21,12 +20,11 @@ loop-i-init c =
 
 pub read_row-at-requires : goal.read_row-at-requires
 read_row-at-requires c =
-    let at = c in
     let l = c.loop-i in
-    let e = left_length at.args.rows l.i (omega arith) in
+    let e = left_length c.args.rows l.i (omega arith) in
     record {
       base_bound = omega arith;
-      room = omega (arith, e, l.invariant.1, l.invariant.2, at.if-codes-total.false, at.count-total.ensures);
+      room = omega (arith, e, l.invariant.1, l.invariant.2, c.if-codes-total.false, c.count-total.ensures);
     }
 
 pub loop-i-preserved : goal.loop-i-preserved
@@ -45,11 +43,10 @@ shape_of-codes c = c.loop-i.invariant.1
 
 pub returns : goal.returns
 returns c =
-    let at = c in
     let l = c.loop-i in
-    let m = at.args.rows in
-    let old = at.args.codes.now in
+    let m = c.args.rows in
+    let old = c.args.codes.now in
     let e = left_none m l.i (omega arith) in (
-      at.count-total.ensures,
-      ap (sets l.codes l.at) (sym e) ∙ l.invariant.3 ∙ read_fits (marks_of m 4096) old (omega (arith, at.if-codes-total.false, at.count-total.ensures)),
+      c.count-total.ensures,
+      ap (sets l.codes l.at) (sym e) ∙ l.invariant.3 ∙ read_fits (marks_of m 4096) old (omega (arith, c.if-codes-total.false, c.count-total.ensures)),
     )

@@ -1,5 +1,4 @@
--- `reading::read` meets its contract. The loop's invariant: writing the codes of the rows from i on after those that are written
--- gives what writing all gives.
+-- The loop's invariant: writing the codes of the rows from i on after those that are written gives what writing all gives.
 use mathlib.Core.Path.{◌≡◌}
 use Prim.Native.Nat.{◌+◌, ◌-◌, ◌≤◌}
 use lib.ListN.{length}

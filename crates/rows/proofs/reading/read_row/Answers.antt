@@ -1,5 +1,4 @@
--- `reading::read_row` meets its contract. The loop's invariant: writing the codes that are left after those that are written
--- gives what writing all gives.
+-- `reading::read_row` meets its contract.
 use mathlib.Core.Path.{◌≡◌, refl, sym, ap, ◌∙◌}
 use mathlib.Core.List.{[]}
 use Prim.Native.Nat.{ℕ, suc, ◌-◌, ◌^◌, ◌<◌}

@@ -1,5 +1,4 @@
--- `reading::read_row` meets its contract. The loop's invariant: writing the codes that are left after those that are written
--- gives what writing all gives.
+-- The loop's invariant: writing the codes that are left after those that are written gives what writing all gives.
 use mathlib.Core.Path.{◌≡◌}
 use Prim.Native.Nat.{◌+◌, ◌≤◌}
 use lib.ListN.{length}

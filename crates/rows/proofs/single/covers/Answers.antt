@@ -1,5 +1,4 @@
--- `single::covers` meets its contract, by `One.covered_says`. The loop's invariant: what was found is what the rows before i mark that have all of
--- the code's row (`Gathered`).
+-- `single::covers` meets its contract, by `One.covered_says`.
 use Prim.Native.Nat.{◌/◌}
 use native.Mathlib.Omega.{arith}
 use Rattle.rows.proofs.One.{gathered_start, gathered_next, next_more, covered_says}

@@ -1,5 +1,4 @@
--- `single::covers` meets its contract, by `One.covered_says`. The loop's invariant: what was found is what the rows before i mark that have all of
--- the code's row (`Gathered`).
+-- The loop's invariant: what was found is what the rows before i mark that have all of the code's row (`Gathered`).
 use Prim.Native.Nat.{◌-◌}
 use Rattle.rows.proofs.One.{Gathered}
 use Rattle.rows.proofs.single.covers.Given as goal

@@ -1,4 +1,4 @@
--- `swap::across` meets its contract. The loop's invariant: the rows of the fours before this one are in their new places.
+-- `swap::across` meets its contract.
 use borrow.Author.Rules.{rules}
 use Prim.Native.Nat.{◌+◌, ◌*◌, ◌<◌}
 use native.Mathlib.Omega.{arith}

@@ -1,4 +1,4 @@
--- `swap::across` meets its contract. The loop's invariant: the rows of the fours before this one are in their new places.
+-- The loop's invariant: the rows of the fours before this one are in their new places.
 use mathlib.Core.Path.{◌≡◌}
 use Prim.Native.Nat.{◌-◌, ◌*◌, ◌≤◌}
 use lib.ListN.{length}

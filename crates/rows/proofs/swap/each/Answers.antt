@@ -1,4 +1,4 @@
--- `swap::each` meets its contract. The loop's invariant: the rows before i have their bits exchanged, the others are as they were.
+-- `swap::each` meets its contract.
 use borrow.Author.Rules.{rules}
 use mathlib.Core.Path.{◌≡◌, refl}
 use native.Mathlib.Omega.{arith}

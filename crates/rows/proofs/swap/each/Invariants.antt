@@ -1,4 +1,4 @@
--- `swap::each` meets its contract. The loop's invariant: the rows before i have their bits exchanged, the others are as they were.
+-- The loop's invariant: the rows before i have their bits exchanged, the others are as they were.
 use mathlib.Core.Path.{◌≡◌}
 use Prim.Native.Nat.{◌-◌, ◌≤◌}
 use lib.ListN.{length}

@@ -1,5 +1,4 @@
--- `table::outside` meets its contract. The loop's invariant: the rows before i have the simple or full codes that were not marked,
--- the others are as they were.
+-- `table::outside` meets its contract.
 use borrow.Author.Rules.{rules}
 use native.Mathlib.Omega.{arith}
 use lib.Bits.{bit_and, bit_xor}

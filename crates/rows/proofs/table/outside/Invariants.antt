@@ -1,5 +1,4 @@
--- `table::outside` meets its contract. The loop's invariant: the rows before i have the simple or full codes that were not marked,
--- the others are as they were.
+-- The loop's invariant: the rows before i have the simple or full codes that were not marked, the others are as they were.
 use Prim.Native.Nat.{◌-◌}
 use Rattle.rows.proofs.EachRow.{Given}
 use Rattle.rows.proofs.SimpleOrFull.{left}

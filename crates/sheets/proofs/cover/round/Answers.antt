@@ -1,4 +1,4 @@
--- `cover::round` meets its contract. The loop's invariant: the primes with so many literals have been met down to the i-th.
+-- `cover::round` meets its contract.
 use mathlib.Core.Path.{◌≡◌}
 use Prim.Native.Nat.{suc, ◌-◌}
 use native.Mathlib.Omega.{arith}

@@ -1,4 +1,4 @@
--- `cover::round` meets its contract. The loop's invariant: the primes with so many literals have been met down to the i-th.
+-- The loop's invariant: the primes with so many literals have been met down to the i-th.
 use Prim.Native.Nat.{◌≤◌}
 use Rattle.sheets.specs.Walk.{Round}
 use Rattle.sheets.proofs.cover.round.Given as goal

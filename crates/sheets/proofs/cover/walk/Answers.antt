@@ -1,4 +1,4 @@
--- `cover::walk` meets its contract. The loop's invariant: the primes with so many literals or more have been met.
+-- `cover::walk` meets its contract.
 use mathlib.Core.Path.{◌≡◌}
 use Prim.Native.Nat.{suc, ◌-◌}
 use native.Mathlib.Omega.{arith}

@@ -1,4 +1,4 @@
--- `cover::walk` meets its contract. The loop's invariant: the primes with so many literals or more have been met.
+-- The loop's invariant: the primes with so many literals or more have been met.
 use Rattle.sheets.specs.Walk.{Rounds}
 use Rattle.sheets.proofs.cover.walk.Given as goal
 

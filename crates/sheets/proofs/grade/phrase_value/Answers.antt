@@ -1,4 +1,4 @@
--- `grade::phrase_value` meets its contract. The loop's invariant: the phrase's value is the lesser of `least` and what is left past variable i.
+-- `grade::phrase_value` meets its contract.
 use mathlib.Core.Path.{sym, ap, ◌≡◌}
 use Prim.Native.Nat.{ℕ, ◌-◌}
 use native.Mathlib.Nat.{sub-zero, mod-lt, min-eq_right}
@@ -17,19 +17,16 @@ loop-i-init c =
 
 pub literal-requires : goal.literal-requires
 literal-requires c =
-    let start = c in
-    let v = start.args.grades.now in
+    let v = c.args.grades.now in
     let i = c.loop-i.i in
-    (mod-lt _ (omega arith), start.requires.grades.1 (get_or v i 0) (at_member v i (omega arith)))
+    (mod-lt _ (omega arith), c.requires.grades.1 (get_or v i 0) (at_member v i (omega arith)))
 
 pub loop-i-preserved : goal.loop-i-preserved
 loop-i-preserved c =
-    let at = c in
-    let start = at in
-    let a = start.args in (
+    let a = c.args in (
       omega arith,
       omega arith,
-      omega (arith, phrase_step a.scale a.n a.phrase a.grades.now at.loop-i.i (omega arith) start.requires.grades.0),
+      omega (arith, phrase_step a.scale a.n a.phrase a.grades.now c.loop-i.i (omega arith) c.requires.grades.0),
     )
 
 pub returns : goal.returns

@@ -1,4 +1,4 @@
--- `grade::phrase_value` meets its contract. The loop's invariant: the phrase's value is the lesser of `least` and what is left past variable i.
+-- The loop's invariant: the phrase's value is the lesser of `least` and what is left past variable i.
 use mathlib.Core.Path.{◌≡◌}
 use Prim.Native.Nat.{◌-◌, ◌≤◌, min}
 use lib.ListN.{drop}

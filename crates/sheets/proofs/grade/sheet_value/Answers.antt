@@ -1,4 +1,4 @@
--- `grade::sheet_value` meets its contract. The loop's invariant: the sheet's value is the greater of `greatest` and what is left past phrase j.
+-- `grade::sheet_value` meets its contract.
 use mathlib.Core.Path.{ap, ◌≡◌}
 use Prim.Native.Nat.{ℕ}
 use native.Mathlib.Omega.{arith}

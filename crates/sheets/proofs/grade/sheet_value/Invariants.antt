@@ -1,4 +1,4 @@
--- `grade::sheet_value` meets its contract. The loop's invariant: the sheet's value is the greater of `greatest` and what is left past phrase j.
+-- The loop's invariant: the sheet's value is the greater of `greatest` and what is left past phrase j.
 use mathlib.Core.Path.{◌≡◌}
 use Prim.Native.Nat.{◌-◌, ◌≤◌, max}
 use lib.ListN.{length, drop}

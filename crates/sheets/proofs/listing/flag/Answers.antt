@@ -1,4 +1,4 @@
--- `listing::flag` meets its contract. The loop's invariant: the first i codes have their flags, and the rest of the buffer is as it came.
+-- `listing::flag` meets its contract.
 use mathlib.Core.Path.{◌≡◌}
 use native.Mathlib.Omega.{arith}
 use Rattle.sheets.proofs.Flags.{flagged_none, flagged_next}

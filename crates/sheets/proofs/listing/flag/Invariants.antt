@@ -1,4 +1,4 @@
--- `listing::flag` meets its contract. The loop's invariant: the first i codes have their flags, and the rest of the buffer is as it came.
+-- The loop's invariant: the first i codes have their flags, and the rest of the buffer is as it came.
 use Prim.Native.Nat.{◌-◌, ◌≤◌}
 use Rattle.sheets.specs.Walk.{Flagged}
 use Rattle.sheets.proofs.listing.flag.Given as goal

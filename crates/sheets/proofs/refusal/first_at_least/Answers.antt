@@ -1,4 +1,4 @@
--- `refusal::first_at_least` meets its contract. The loop's invariant: what is found in the whole list is i and what is found past i.
+-- `refusal::first_at_least` meets its contract.
 use mathlib.Core.Path.{ap, ◌≡◌}
 use Prim.Native.Nat.{ℕ}
 use native.Mathlib.Omega.{arith}
@@ -12,15 +12,13 @@ overflow_cast-list c = omega (arith, c.shared_slice_known-1.given c.loop-i.i)
 
 pub returns-then-limit-list : goal.returns-then-limit-list
 returns-then-limit-list c =
-    let at = c in
-    let a = at.args in
-    omega (arith, first_found a.limit a.list.now at.loop-i.i (omega arith) c.if-limit-list.true)
+    let a = c.args in
+    omega (arith, first_found a.limit a.list.now c.loop-i.i (omega arith) c.if-limit-list.true)
 
 pub loop-i-preserved : goal.loop-i-preserved
 loop-i-preserved c =
-    let at = c in
-    let a = at.args in
-    (omega arith, omega (arith, first_later a.limit a.list.now at.loop-i.i (omega arith) c.if-limit-list.false))
+    let a = c.args in
+    (omega arith, omega (arith, first_later a.limit a.list.now c.loop-i.i (omega arith) c.if-limit-list.false))
 
 pub returns : goal.returns
 returns c =

@@ -1,4 +1,4 @@
--- `refusal::first_at_least` meets its contract. The loop's invariant: what is found in the whole list is i and what is found past i.
+-- The loop's invariant: what is found in the whole list is i and what is found past i.
 use mathlib.Core.Path.{◌≡◌}
 use Prim.Native.Nat.{◌+◌, ◌-◌, ◌≤◌}
 use lib.ListN.{length, drop}

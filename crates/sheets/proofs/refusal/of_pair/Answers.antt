@@ -14,10 +14,8 @@ of_codes-second_codes-requires c = few_variables c.args.n (rw c.of_variables-var
 
 pub returns : goal.returns
 returns c =
-    let checked = c in
-    let tested = checked in
-    first_passes _ _ _ _ tested.of_variables-variables.ensures tested.if-variables-ne-DONE.false
-    (link _ _ _ _ _ c.or_else-3.ensures tested.of_phrases-first_phrases.ensures
-    (link _ _ _ _ _ c.or_else-2.ensures tested.of_phrases-second_phrases.ensures
-    (link _ _ _ _ _ c.or_else.ensures checked.of_codes-first_codes.ensures
-    (last_link _ _ _ _ (omega arith) checked.of_codes-second_codes.ensures))))
+    first_passes _ _ _ _ c.of_variables-variables.ensures c.if-variables-ne-DONE.false
+    (link _ _ _ _ _ c.or_else-3.ensures c.of_phrases-first_phrases.ensures
+    (link _ _ _ _ _ c.or_else-2.ensures c.of_phrases-second_phrases.ensures
+    (link _ _ _ _ _ c.or_else.ensures c.of_codes-first_codes.ensures
+    (last_link _ _ _ _ (omega arith) c.of_codes-second_codes.ensures))))

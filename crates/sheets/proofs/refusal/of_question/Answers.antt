@@ -20,9 +20,7 @@ of_phrase-phrased-requires c =
 pub returns : goal.returns
 unfolding question_refusal
 returns c =
-    let checked = c in
-    let tested = checked in
-    first_passes _ _ _ _ tested.of_variables-variables.ensures tested.if-variables-ne-DONE.false
-    (link _ _ _ _ _ c.or_else-2.ensures tested.of_phrases-phrases.ensures
-    (link _ _ _ _ _ c.or_else.ensures checked.of_codes-codes.ensures
-    (last_link _ _ _ _ (omega arith) checked.of_phrase-phrased.ensures)))
+    first_passes _ _ _ _ c.of_variables-variables.ensures c.if-variables-ne-DONE.false
+    (link _ _ _ _ _ c.or_else-2.ensures c.of_phrases-phrases.ensures
+    (link _ _ _ _ _ c.or_else.ensures c.of_codes-codes.ensures
+    (last_link _ _ _ _ (omega arith) c.of_phrase-phrased.ensures)))

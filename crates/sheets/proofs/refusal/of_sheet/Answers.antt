@@ -11,7 +11,6 @@ of_codes-codes-requires c = few_variables c.args.n (rw c.of_variables-variables.
 
 pub returns : goal.returns
 returns c =
-    let tested = c in
-    first_passes _ _ _ _ tested.of_variables-variables.ensures tested.if-variables-ne-DONE.false
-    (link _ _ _ _ _ c.or_else.ensures tested.of_phrases-phrases.ensures
+    first_passes _ _ _ _ c.of_variables-variables.ensures c.if-variables-ne-DONE.false
+    (link _ _ _ _ _ c.or_else.ensures c.of_phrases-phrases.ensures
     (last_link _ _ _ _ (omega arith) c.of_codes-codes.ensures))

@@ -15,11 +15,9 @@ of_codes-codes-requires c =
 pub returns : goal.returns
 unfolding value_refusal
 returns c =
-    let checked = c in
-    let tested = checked in
-    first_passes _ _ _ _ tested.of_variables-variables.ensures tested.if-variables-ne-DONE.false
-    (link _ _ _ _ _ c.or_else-4.ensures tested.of_phrases-phrases.ensures
-    (link _ _ _ _ _ c.or_else-3.ensures checked.of_codes-codes.ensures
-    (link _ _ _ _ _ c.or_else-2.ensures checked.of_scale-scaled.ensures
-    (link _ _ _ _ _ c.or_else.ensures checked.of_count-counted.ensures
-    (last_link _ _ _ _ (omega arith) checked.of_grades-graded.ensures)))))
+    first_passes _ _ _ _ c.of_variables-variables.ensures c.if-variables-ne-DONE.false
+    (link _ _ _ _ _ c.or_else-4.ensures c.of_phrases-phrases.ensures
+    (link _ _ _ _ _ c.or_else-3.ensures c.of_codes-codes.ensures
+    (link _ _ _ _ _ c.or_else-2.ensures c.of_scale-scaled.ensures
+    (link _ _ _ _ _ c.or_else.ensures c.of_count-counted.ensures
+    (last_link _ _ _ _ (omega arith) c.of_grades-graded.ensures)))))

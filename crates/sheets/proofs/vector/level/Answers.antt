@@ -13,17 +13,14 @@ unpaired-whole-requires c = rw c.reached-half.ensures (reach_six c.args.n c.args
 -- the code without its pairs is that of the literals at least 2
 whole : (c : After-unpaired-whole) → c.unpaired-whole.result ≡ reach 2 2 (vector c.args.n c.args.v)
 whole c =
-    let start = c in
-    whole_of start.args.n start.args.v start.requires.n_bound c.reached-half.result c.unpaired-whole.result
+    whole_of c.args.n c.args.v c.requires.n_bound c.reached-half.result c.unpaired-whole.result
     c.reached-half.ensures c.unpaired-whole.ensures.0 c.unpaired-whole.ensures.1
 
 pub returns-then-whole-phrase : goal.returns-then-whole-phrase
 returns-then-whole-phrase c =
-    let start = c in
-    whole c.before ∙ level_whole start.args.n start.args.v start.args.phrase start.requires.phrase_bound (rw (whole c.before) at c.if-whole-phrase.true)
+    whole c.before ∙ level_whole c.args.n c.args.v c.args.phrase c.requires.phrase_bound (rw (whole c.before) at c.if-whole-phrase.true)
 
 pub returns : goal.returns
 returns c =
-    let start = c in
     c.reached-half.ensures
-    ∙ level_half start.args.n start.args.v start.args.phrase start.requires.phrase_bound (rw (whole c.before) at c.if-whole-phrase.false)
+    ∙ level_half c.args.n c.args.v c.args.phrase c.requires.phrase_bound (rw (whole c.before) at c.if-whole-phrase.false)

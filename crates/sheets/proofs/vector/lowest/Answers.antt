@@ -1,5 +1,4 @@
--- `vector::lowest` meets its contract. The outer loop's invariant: the lowest vector is the first of those left from v on. The inner loop's: the code
--- subsumes no phrase of the sheet before j.
+-- `vector::lowest` meets its contract.
 use borrow.Author.Count.{below_more}
 use mathlib.Core.Path.{◌≡◌, sym, ap, ◌∙◌}
 use Prim.Native.Nat.{ℕ, ◌-◌}
@@ -19,54 +18,47 @@ vectors-init c = (omega arith, rw (sub-zero c.power-count.result, c.power-count.
 
 pub vectors-preserved-then-level-q : goal.vectors-preserved-then-level-q
 vectors-preserved-then-level-q c =
-    let at = c in
-    let start = at in
-    let a = start.args in
-    let v = at.vectors in
+    let a = c.args in
+    let v = c.vectors in
     let j = c.loop-j.j in
     let m = at_member a.sheet.now j (omega arith) in
     let q = get_or a.sheet.now j 0 in
-    let e = covered a.n v.v a.phrase start.requires.phrase_bound a.sheet.now at.level-level.result at.level-level.ensures q m
-    (start.requires.codes_bound q m) c.if-level-q.true in (
+    let e = covered a.n v.v a.phrase c.requires.phrase_bound a.sheet.now c.level-level.result c.level-level.ensures q m
+    (c.requires.codes_bound q m) c.if-level-q.true in (
       omega arith,
       rw c.loop-j.invariant.0
           (v.invariant.1 ∙ scan_next (above a.n (sheet_fn a.n a.sheet.now) a.phrase) v.v
-          at.power-count.result at.vectors-test.true e),
+          c.power-count.result c.vectors-test.true e),
     )
 
 pub loop-j-preserved : goal.loop-j-preserved
 loop-j-preserved c =
-    let at = c in
-    let F = at.args.sheet.now in
+    let F = c.args.sheet.now in
     let l = c.loop-j in (
       l.invariant.0,
       omega arith,
-      below_more (λ (k : ℕ). bit_and at.level-level.result (get_or F k 0) ≡ get_or F k 0 → ⊥) l.j l.invariant.2 c.if-level-q.false,
+      below_more (λ (k : ℕ). bit_and c.level-level.result (get_or F k 0) ≡ get_or F k 0 → ⊥) l.j l.invariant.2 c.if-level-q.false,
     )
 
 pub returns-then-level-phrase : goal.returns-then-level-phrase
 returns-then-level-phrase c =
-    let at = c in
-    let start = at in
-    let a = start.args in
-    let v = at.vectors in
+    let a = c.args in
+    let v = c.vectors in
     let all : c.loop-j.j ≡ length a.sheet.now = omega arith in
-    let e = uncovered a.n v.v a.phrase start.requires.phrase_bound a.sheet.now at.level-level.result at.level-level.ensures
-    start.requires.codes_bound c.if-level-phrase.true (λ k l. c.loop-j.invariant.2 k (omega arith)) in
+    let e = uncovered a.n v.v a.phrase c.requires.phrase_bound a.sheet.now c.level-level.result c.level-level.ensures
+    c.requires.codes_bound c.if-level-phrase.true (λ k l. c.loop-j.invariant.2 k (omega arith)) in
     c.loop-j.invariant.0
     ∙ sym (v.invariant.1 ∙ scan_stop (above a.n (sheet_fn a.n a.sheet.now) a.phrase) v.v
-    at.power-count.result at.vectors-test.true e)
+    c.power-count.result c.vectors-test.true e)
 
 pub vectors-preserved : goal.vectors-preserved
 vectors-preserved c =
-    let at = c in
-    let start = at in
-    let a = start.args in
-    let v = at.vectors in
-    let e = unmet a.n v.v a.phrase start.requires.phrase_bound a.sheet.now at.level-level.result at.level-level.ensures c.if-level-phrase.false in (
+    let a = c.args in
+    let v = c.vectors in
+    let e = unmet a.n v.v a.phrase c.requires.phrase_bound a.sheet.now c.level-level.result c.level-level.ensures c.if-level-phrase.false in (
       omega arith,
       v.invariant.1 ∙ scan_next (above a.n (sheet_fn a.n a.sheet.now) a.phrase) v.v
-          at.power-count.result at.vectors-test.true e,
+          c.power-count.result c.vectors-test.true e,
     )
 
 pub returns : goal.returns

@@ -1,5 +1,5 @@
--- `vector::lowest` meets its contract. The outer loop's invariant: the lowest vector is the first of those left from v on. The inner loop's: the code
--- subsumes no phrase of the sheet before j.
+-- The outer loop's invariant: the lowest vector is the first of those left from v on. The inner loop's: the code subsumes no phrase of the sheet
+-- before j.
 use mathlib.Core.Path.{◌≡◌}
 use Prim.Native.Nat.{ℕ, ◌-◌, ◌≤◌, ◌<◌}
 use lib.Bits.{bit_and}

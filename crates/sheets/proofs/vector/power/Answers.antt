@@ -1,4 +1,4 @@
--- `vector::power` meets its contract. The loop's invariant: the product is the i-th power.
+-- `vector::power` meets its contract.
 use mathlib.Core.Path.{sym, ap, ◌∙◌, ◌≡◌}
 use Prim.Native.Nat.{ℕ, ◌^◌}
 use native.Mathlib.Nat.{pow-zero, pow-suc}

@@ -1,4 +1,4 @@
--- `vector::power` meets its contract. The loop's invariant: the product is the i-th power.
+-- The loop's invariant: the product is the i-th power.
 use mathlib.Core.Path.{◌≡◌}
 use Prim.Native.Nat.{◌-◌, ◌^◌, ◌≤◌}
 use Rattle.sheets.proofs.vector.power.Given as goal

@@ -1,4 +1,4 @@
--- `vector::reached` meets its contract. The loop's invariant: the code is that of the vector's i lowest variables; `rest` and `place` are where the next one stands.
+-- `vector::reached` meets its contract.
 use mathlib.Core.Path.{refl, sym, ap, ◌∙◌, ◌≡◌}
 use Prim.Native.Nat.{ℕ, ◌+◌, ◌*◌, ◌<◌, ◌/◌}
 use native.Mathlib.Nat.{div-one, pow-suc}

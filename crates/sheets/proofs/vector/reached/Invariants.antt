@@ -1,4 +1,4 @@
--- `vector::reached` meets its contract. The loop's invariant: the code is that of the vector's i lowest variables; `rest` and `place` are where the next one stands.
+-- The loop's invariant: the code is that of the vector's i lowest variables; `rest` and `place` are where the next one stands.
 use mathlib.Core.Path.{◌≡◌}
 use Prim.Native.Nat.{◌-◌, ◌/◌, ◌^◌, ◌≤◌}
 use Rattle.fuzzy.proofs.Reach.{reach}
