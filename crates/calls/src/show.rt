@@ -10,13 +10,10 @@ pub(crate) fn value(
     scale: u16,
     grades: &[u16],
 ) -> io::Result<()> {
-    let valued = sheets::value(n, sheet, scale, grades);
-    let answer = valued.answer;
-    print!(rt; "{name}")?;
-    number(rt, answer.number as u64)?;
-    number(rt, answer.detail)?;
-    number(rt, valued.value as u64)?;
-    println!(rt)
+    match sheets::value(n, sheet, scale, grades) {
+        Ok(value) => println!(rt; "{name} 0 0 {value}"),
+        Err(refusal) => println!(rt; "{name} {refusal} 0"),
+    }
 }
 
 // Asks whether the phrase is an implicant and prints number, detail, verdict and vector.
@@ -27,17 +24,9 @@ pub(crate) fn implicant(
     sheet: &[u16],
     phrase: u16,
 ) -> io::Result<()> {
-    let asked = sheets::implicant(n, sheet, phrase);
-    let answer = asked.answer;
-    print!(rt; "{name}")?;
-    number(rt, answer.number as u64)?;
-    number(rt, answer.detail)?;
-    number(rt, asked.verdict as u64)?;
-    number(rt, asked.vector as u64)?;
-    println!(rt)
-}
-
-// A number after a space.
-fn number(rt: &impl Print, x: u64) -> io::Result<()> {
-    print!(rt; " {x}")
+    match sheets::implicant(n, sheet, phrase) {
+        Ok(None) => println!(rt; "{name} 0 0 1 0"),
+        Ok(Some(vector)) => println!(rt; "{name} 0 0 0 {vector}"),
+        Err(refusal) => println!(rt; "{name} {refusal} 0 0"),
+    }
 }

@@ -18,10 +18,3 @@ pub(crate) fn full() -> [u16; 4096]
     sheet[4095] = VARIABLES;
     sheet
 }
-
-// One phrase too many, all of them the same.
-pub(crate) fn long(code: u16) -> [u16; 4097]
-    ensures { 4097 ≡ length result }
-{
-    [code; 4097]
-}

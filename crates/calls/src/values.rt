@@ -1,5 +1,6 @@
 // Cases and edges of the value.
-use crate::{show, tables};
+use crate::show;
+use crate::tables::{COMPLEMENTS, PAIRS, VARIABLES, full};
 use std::io;
 
 // C12 of document 01.
@@ -11,14 +12,8 @@ pub(crate) fn known(rt: &impl Print) -> io::Result<()> {
 pub(crate) fn variables(rt: &impl Print) -> io::Result<()> {
     show::value(rt, "value-n-0", 0, &[0], 10, &[])?;
     show::value(rt, "value-n-1", 1, &[2], 10, &[7])?;
-    show::value(
-        rt,
-        "value-n-6",
-        6,
-        &[tables::VARIABLES, tables::COMPLEMENTS],
-        10,
-        &[9, 8, 7, 6, 5, 7],
-    )?;
+    let grades = [9, 8, 7, 6, 5, 7];
+    show::value(rt, "value-n-6", 6, &[VARIABLES, COMPLEMENTS], 10, &grades)?;
     show::value(rt, "value-n-7", 7, &[0], 10, &[1, 2, 3, 4, 5, 6, 7])?;
     show::value(rt, "value-n-large", usize::MAX, &[0], 10, &[1])
 }
@@ -26,30 +21,17 @@ pub(crate) fn variables(rt: &impl Print) -> io::Result<()> {
 // Lengths: 4,096 phrases are taken, and the last of them has the greatest value.
 pub(crate) fn lengths(rt: &impl Print) -> io::Result<()> {
     let grades = [9, 8, 7, 6, 9, 10];
-    show::value(rt, "value-4096-phrases", 6, &tables::full(), 10, &grades)?;
-    show::value(rt, "value-4097-phrases", 6, &tables::long(0), 10, &grades)
+    show::value(rt, "value-4096-phrases", 6, &full(), 10, &grades)?;
+    show::value(rt, "value-4097-phrases", 6, &[0; 4097], 10, &grades)
 }
 
 // Codes in the sheet: 15 is the last of two variables, 4,095 the last of six.
 pub(crate) fn codes(rt: &impl Print) -> io::Result<()> {
     show::value(rt, "value-code-15", 2, &[15], 10, &[7, 4])?;
     show::value(rt, "value-code-16", 2, &[10, 9, 16, 15, 17], 10, &[7, 4])?;
-    show::value(
-        rt,
-        "value-code-4095",
-        6,
-        &[tables::PAIRS],
-        10,
-        &[2, 3, 4, 5, 6, 7],
-    )?;
-    show::value(
-        rt,
-        "value-code-4096",
-        6,
-        &[0, 4096],
-        10,
-        &[2, 3, 4, 5, 6, 7],
-    )
+    let grades = [2, 3, 4, 5, 6, 7];
+    show::value(rt, "value-code-4095", 6, &[PAIRS], 10, &grades)?;
+    show::value(rt, "value-code-4096", 6, &[0, 4096], 10, &grades)
 }
 
 // Scales: 2 and 1,000 are taken, and the complement of 1 tells them apart.

@@ -6,12 +6,13 @@ mod codes;
 mod known;
 mod lengths;
 mod orders;
+mod pair;
 mod repeats;
 mod rooms;
 mod show;
-mod tables;
 mod variables;
 
+use pair::Pair::{Join, Meet};
 use std::io;
 
 fn main(rt: HostRuntime) -> io::Result<()> {
@@ -22,18 +23,18 @@ fn main(rt: HostRuntime) -> io::Result<()> {
     rooms::empty(&rt)?;
     rooms::operations(&rt)?;
     variables::lists(&rt)?;
-    variables::joins(&rt)?;
-    variables::meets(&rt)?;
+    variables::pairs(&rt, Join, 4, 11)?;
+    variables::pairs(&rt, Meet, 2, 10)?;
     variables::complements(&rt)?;
     lengths::one_sheet(&rt)?;
-    lengths::joins(&rt)?;
-    lengths::meets(&rt)?;
+    lengths::two_sheets(&rt, Join, &[])?;
+    lengths::two_sheets(&rt, Meet, &[0])?;
     codes::one_sheet(&rt)?;
     codes::joins(&rt)?;
     codes::meets(&rt)?;
     orders::one_sheet(&rt)?;
-    orders::joins(&rt)?;
-    orders::meets(&rt)?;
+    orders::two_sheets(&rt, Join)?;
+    orders::two_sheets(&rt, Meet)?;
     repeats::one_sheet(&rt)?;
     repeats::two_sheets(&rt)
 }

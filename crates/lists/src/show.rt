@@ -1,123 +1,120 @@
 // The four calls of `sheets` that give a list, each with its answer and all that was lent printed on a line under the case's name.
-use sheets::Listed;
+use crate::pair::Pair;
+use sheets::Refusal;
+use std::fmt::Display;
 use std::io;
 
 // What a lent code is before the call: no code of six variables.
-pub(crate) const CODE: u16 = 65535;
+const CODE: u16 = 65535;
 
 // What a lent flag is before the call: no flag.
-pub(crate) const FLAG: u8 = 255;
+const FLAG: u8 = 255;
 
-// Asks for the sheet's list with its cover and prints number, detail and count, all codes and all flags that were lent.
+// The most entries that a case lends.
+const MOST: usize = 255;
+
+// Asks for the sheet's list with its cover, and lends as much room for codes as for flags.
 pub(crate) fn list(
     rt: &impl Print,
     name: &str,
     n: usize,
     sheet: &[u16],
-    codes: &mut [u16],
-    flags: &mut [u8],
+    room: u8,
 ) -> io::Result<()> {
+    list_into(rt, name, n, sheet, room, room)
+}
+
+// The same with a room for codes and a room for flags.
+pub(crate) fn list_into(
+    rt: &impl Print,
+    name: &str,
+    n: usize,
+    sheet: &[u16],
+    code_room: u8,
+    flag_room: u8,
+) -> io::Result<()> {
+    let mut codes = [CODE; MOST];
+    let mut flags = [FLAG; MOST];
+    let codes = &mut codes[..code_room as usize];
+    let flags = &mut flags[..flag_room as usize];
     let listed = sheets::list(n, sheet, codes, flags);
-    let count = listed.count;
-    answer(rt, name, listed)?;
-    all_codes(rt, codes, count)?;
+    let count = answer(rt, name, listed)?;
+    lent(rt, codes, count)?;
     print!(rt; " flags")?;
-    all_flags(rt, flags, count)?;
+    lent(rt, flags, count)?;
     println!(rt)
 }
 
-// Asks for the join and prints number, detail and count, and all codes that were lent.
-pub(crate) fn join(
+// Asks for the join or the meet, whose name begins the case's.
+pub(crate) fn pair(
     rt: &impl Print,
+    pair: Pair,
+    case: &str,
+    n: usize,
+    first: &[u16],
+    second: &[u16],
+    room: u8,
+) -> io::Result<()> {
+    print!(rt; "{}-", pair.name())?;
+    named(rt, pair, case, n, first, second, room)
+}
+
+// The same under a name of its own.
+pub(crate) fn named(
+    rt: &impl Print,
+    pair: Pair,
     name: &str,
     n: usize,
     first: &[u16],
     second: &[u16],
-    codes: &mut [u16],
+    room: u8,
 ) -> io::Result<()> {
-    let listed = sheets::join(n, first, second, codes);
+    let mut codes = [CODE; MOST];
+    let codes = &mut codes[..room as usize];
+    let listed = pair.call(n, first, second, codes);
     plain(rt, name, listed, codes)
 }
 
-// Asks for the meet and prints the same.
-pub(crate) fn meet(
-    rt: &impl Print,
-    name: &str,
-    n: usize,
-    first: &[u16],
-    second: &[u16],
-    codes: &mut [u16],
-) -> io::Result<()> {
-    let listed = sheets::meet(n, first, second, codes);
-    plain(rt, name, listed, codes)
-}
-
-// Asks for the complement and prints the same.
+// Asks for the complement.
 pub(crate) fn complement(
     rt: &impl Print,
     name: &str,
     n: usize,
     sheet: &[u16],
-    codes: &mut [u16],
+    room: u8,
 ) -> io::Result<()> {
+    let mut codes = [CODE; MOST];
+    let codes = &mut codes[..room as usize];
     let listed = sheets::complement(n, sheet, codes);
     plain(rt, name, listed, codes)
 }
 
 // The line of a call that gives no flags.
-fn plain(rt: &impl Print, name: &str, listed: Listed, codes: &[u16]) -> io::Result<()> {
-    let count = listed.count;
-    answer(rt, name, listed)?;
-    all_codes(rt, codes, count)?;
+fn plain(
+    rt: &impl Print,
+    name: &str,
+    listed: Result<usize, Refusal>,
+    codes: &[u16],
+) -> io::Result<()> {
+    let count = answer(rt, name, listed)?;
+    lent(rt, codes, count)?;
     println!(rt)
 }
 
-// The case's name, then number, detail and count.
-fn answer(rt: &impl Print, name: &str, listed: Listed) -> io::Result<()> {
-    let answer = listed.answer;
-    print!(rt; "{name}")?;
-    number(rt, answer.number as u64)?;
-    number(rt, answer.detail)?;
-    number(rt, listed.count as u64)
+// Prints name, number, detail and count, and gives the count: none of a refused call.
+fn answer(rt: &impl Print, name: &str, listed: Result<usize, Refusal>) -> io::Result<usize> {
+    match listed {
+        Ok(count) => print!(rt; "{name} 0 0 {count}")?,
+        Err(refusal) => print!(rt; "{name} {refusal} 0")?,
+    }
+    Ok(listed.unwrap_or(0))
 }
 
-// All codes that were lent, with a bar before the first that the call had no entry for.
-fn all_codes(rt: &impl Print, codes: &[u16], count: usize) -> io::Result<()> {
-    for (i, x) in codes.iter().enumerate() {
-        code(rt, *x, i == count)?;
+// Prints all that was lent, with a bar before the first that the call had no entry for.
+fn lent<T: Display>(rt: &impl Print, lent: &[T], count: usize) -> io::Result<()> {
+    for (i, x) in lent.iter().enumerate() {
+        let bar = if i == count { " |" } else { "" };
+        print!(rt; "{bar} {x}")?;
     }
     Ok(())
-}
-
-// All flags that were lent, in the same way.
-fn all_flags(rt: &impl Print, flags: &[u8], count: usize) -> io::Result<()> {
-    for (i, x) in flags.iter().enumerate() {
-        flag(rt, *x, i == count)?;
-    }
-    Ok(())
-}
-
-// A code, after a bar where it is the first later one.
-fn code(rt: &impl Print, x: u16, later: bool) -> io::Result<()> {
-    bar(rt, later)?;
-    number(rt, x as u64)
-}
-
-// A flag, after a bar where it is the first later one.
-fn flag(rt: &impl Print, x: u8, later: bool) -> io::Result<()> {
-    bar(rt, later)?;
-    number(rt, x as u64)
-}
-
-// A bar, if asked for.
-fn bar(rt: &impl Print, wanted: bool) -> io::Result<()> {
-    if wanted {
-        print!(rt; " |")?;
-    }
-    Ok(())
-}
-
-// A number after a space.
-fn number(rt: &impl Print, x: u64) -> io::Result<()> {
-    print!(rt; " {x}")
 }

@@ -1,11 +1,10 @@
 -- Laws over plain variables that the functions' proofs cite.
 --   Stage          marks moved literal by literal, closed over all twelve
 --   Shift          moving one row's marks by shifts and masks
---   Rows           loops over the rows, each by itself and from row to row
+--   Rows           passes over the rows, each by itself and from row to row, as passes over the codes
 --   Joined         marks joined, and turned over
 --   Places         digits 0 and 3 exchanged, in the rows and in the bits
 --   Every          a test that is computed over all numbers below n
---   EachRow        a loop that gives the rows their new values one after the other
 --   Marking        setting a code's bit marks the code and no other
 --   SimpleOrFull   the table of the simple or full codes is right
 --   LowCodes       the codes of n variables are in the first rows
@@ -19,7 +18,6 @@ pub mod Rows
 pub mod Joined
 pub mod Places
 pub mod Every
-pub mod EachRow
 pub mod Marking
 pub mod SimpleOrFull
 pub mod LowCodes

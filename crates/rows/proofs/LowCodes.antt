@@ -5,19 +5,18 @@ use mathlib.Core.Logic.{◌⊎◌, inl, inr, ◌↔◌}
 use mathlib.Core.Bool.{true}
 use mathlib.Core.List.{List}
 use Prim.Native.Nat.{ℕ, ◌+◌, ◌*◌, ◌/◌, ◌%◌, ◌^◌, ◌≤◌, ◌<◌, min}
-use native.Mathlib.Nat.{eq-zero-or-pos, lt_of_lt_of_le, pow-le-pow_right}
+use native.Mathlib.Nat.{eq-zero-or-pos, eq-or-lt_of_le, lt_of_lt_of_le, pow-le-pow_right}
 use native.Mathlib.Decide.{dec_lt}
 use native.Mathlib.Omega.{arith}
 use borrow.Author.Tests.{lt-ltb, ltb-true}
 use lib.Bits.{bit_and}
 use lib.Dec.{eqb, ltb}
 use lib.Pow.{pow_pos}
-use lib.ListN.{length, get_or, set}
+use lib.ListN.{length, get_or, set, length-set}
 use lib.Seq.{get_or-set_same, get_or-set_other}
 use Rattle.fuzzy.specs.Phrase.{has}
 use Rattle.fuzzy.proofs.Literals.{has_lt, has_and, has_none}
 use Rattle.fuzzy.proofs.Search.{eqb_eq, eq-eqb}
-use Rattle.rows.proofs.EachRow.{Given}
 use Rattle.rows.proofs.Every.{every, every_at, agree, agree_says}
 use Rattle.rows.specs.Square.{square, Marked}
 
@@ -66,27 +65,31 @@ count_3 n h =
     let p : 4 ^ n ≤ 4 ^ 3 = pow-le-pow_right {n = 4} (omega arith) h in
     (omega arith, omega arith, λ j k a b d. omega arith)
 
--- four have four
-pub count_4 : (n : ℕ) → n ≡ 4 → Count 4 (4 ^ n)
-count_4 n e = rw e (omega arith, omega arith, λ j k a b d. omega arith)
-
--- five have sixteen
-pub count_5 : (n : ℕ) → n ≡ 5 → Count 16 (4 ^ n)
-count_5 n e = rw e (omega arith, omega arith, λ j k a b d. omega arith)
-
 -- six or more have all
 pub count_6 : (n : ℕ) → 6 ≤ n → Count 64 (4 ^ n)
 count_6 n h =
     let p : 4 ^ 6 ≤ 4 ^ n = pow-le-pow_right {n = 4} (omega arith) h in
     (omega arith, omega arith, λ j k a b d. omega arith)
 
--- row j is as in m before e, and empty from there on
-abbrev pub cleared : ℕ → List ℕ → ℕ → ℕ → Type 0
-cleared e m j x = (j < e → x ≡ get_or m j 0) × (e ≤ j → x ≡ 0)
+-- the rows of r before e are those of m, and those from e to i are empty
+abbrev pub Cleared : ℕ → List ℕ → ℕ → List ℕ → Type 0
+Cleared e m i r = (length r ≡ 64) × ((j : ℕ) → j < e → get_or r j 0 ≡ get_or m j 0) × ((j : ℕ) → e ≤ j → j < i → get_or r j 0 ≡ 0)
 
 -- at row e nothing is to be cleared yet
-pub clear_none : (e : ℕ) (m : List ℕ) → length m ≡ 64 → e ≤ 64 → Given (cleared e m) m e m
-clear_none e m rows l = (l, rows, λ j h. (λ d. refl, λ d. absurd (omega arith)), λ j h. refl)
+pub clear_none : (e : ℕ) (m : List ℕ) → length m ≡ 64 → Cleared e m e m
+clear_none e m rows = (rows, λ j l. refl, λ j a b. absurd (omega arith))
+
+-- one row more
+pub clear_more : (e : ℕ) (m : List ℕ) (i : ℕ) (r : List ℕ) → e ≤ i → i < 64 → Cleared e m i r → Cleared e m (i + 1) (set r i 0)
+clear_more e m i r late l (rows, kept, none) = (
+  simp length-set rows,
+  λ j lj. get_or-set_other r i j 0 0 (λ s. omega arith) ∙ kept j lj,
+  λ j a b. at j a (eq-or-lt_of_le {n = j} {m = i} (omega arith)),
+)
+  where
+    at : (j : ℕ) → e ≤ j → (j ≡ i) ⊎ (j < i) → get_or (set r i 0) j 0 ≡ 0
+    at j a (inl s) = rw s (get_or-set_same r i 0 0 (omega arith))
+    at j a (inr b) = get_or-set_other r i j 0 0 (λ s. omega arith) ∙ none j a b
 
 -- the rows with a mask on the first
 abbrev pub masked : List ℕ → ℕ → List ℕ
@@ -96,10 +99,10 @@ module _ (m : List ℕ) (w x e : ℕ) (rows : length m ≡ 64) (first : Low x w)
   min_one : (a b : ℕ) → a < 2 → b < 2 → (min a b ≡ 1) ↔ ((a ≡ 1) × (b ≡ 1))
   min_one a b la lb = (λ h. omega arith, λ h. omega arith)
 
-  module _ (r : List ℕ) (h : (j : ℕ) → j < 64 → cleared e (masked m x) j (get_or r j 0)) where
+  module _ (i : ℕ) (r : List ℕ) (all : 64 ≤ i) (h : Cleared e (masked m x) i r) where
     first_has : (k : ℕ) → k < 64 → (has (get_or r 0 0) k ≡ 1) ↔ ((has (get_or m 0 0) k ≡ 1) × (k < w))
     first_has k l =
-        let row = (h 0 (omega arith)).0 count.0 ∙ get_or-set_same m 0 (bit_and (get_or m 0 0) x) 0 (omega arith) in
+        let row = h.1 0 count.0 ∙ get_or-set_same m 0 (bit_and (get_or m 0 0) x) 0 (omega arith) in
         let two = min_one (has (get_or m 0 0) k) (has x k) (has_lt (get_or m 0 0) k) (has_lt x k) in
         rw (row, has_and (get_or m 0 0) x k) (λ y. ((two.0 y).0, (first k l).0 (two.0 y).1), λ y. two.1 (y.0, (first k l).1 y.1))
 
@@ -108,9 +111,9 @@ module _ (m : List ℕ) (w x e : ℕ) (rows : length m ≡ 64) (first : Low x w)
       where
         at : Dec (j < e) → (has (get_or r j 0) k ≡ 1) ↔ ((has (get_or m j 0) k ≡ 1) × (j * 64 + k < w))
         at (yes d) =
-            rw ((h j lj).0 d ∙ get_or-set_other m 0 j (bit_and (get_or m 0 0) x) 0 (λ z. omega arith)) (λ y. (y, (count.2 j k p lj lk).1 d), λ y. y.0)
+            rw (h.1 j d ∙ get_or-set_other m 0 j (bit_and (get_or m 0 0) x) 0 (λ z. omega arith)) (λ y. (y, (count.2 j k p lj lk).1 d), λ y. y.0)
         at (no d) =
-            rw ((h j lj).1 (omega arith), has_none 0 k (pow_pos k)) (λ y. absurd (omega arith), λ y. absurd (d ((count.2 j k p lj lk).0 y.1)))
+            rw (h.2 j (omega arith) (omega arith), has_none 0 k (pow_pos k)) (λ y. absurd (omega arith), λ y. absurd (d ((count.2 j k p lj lk).0 y.1)))
 
     -- with the first row masked and the rows from e on cleared, just the marked codes below w are marked
     pub cut_rows : (c : ℕ) → c < 4096 → Marked r c ↔ (Marked m c × (c < w))

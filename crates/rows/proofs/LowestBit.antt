@@ -3,7 +3,7 @@
 use mathlib.Core.Path.{◌≡◌, refl, sym, ap, ◌∙◌}
 use mathlib.Core.Bool.{Bool, true, false}
 use mathlib.Core.Logic.{◌⊎◌, inl, inr, ◌≢◌}
-use mathlib.Core.List.{List, [], ◌∷◌}
+use mathlib.Core.List.{List, ◌∷◌}
 use Prim.Native.Nat.{ℕ, zero, suc, ◌+◌, ◌-◌, ◌*◌, ◌/◌, ◌%◌, ◌^◌, ◌≤◌, ◌<◌, min}
 use native.Mathlib.Nat.{eq-or-lt_of_le}
 use native.Mathlib.Decide.{ℕ_discrete}
@@ -100,11 +100,8 @@ module _ (x base : ℕ) (some_one : 0 < x) (fits : x < 2 ^ 64) where
   pub write_less : length (row_marks x base) ≡ suc (length (row_marks (bit_and x (x - 1)) base))
   write_less = ap length row_first
 
--- a row that is 0 marks nothing
-pub row_none : (base : ℕ) → row_marks 0 base ≡ []
+-- a row that marks something is not 0
+pub row_some : (x base : ℕ) → 0 < length (row_marks x base) → 0 < x
 unfolding ones
-row_none base = at (row_marks 0 base) (sym (row_ones 0 base (omega arith)))
-  where
-    at : (l : List ℕ) → length l ≡ 0 → l ≡ []
-    at [] e = refl
-    at (a ∷ l) e = absurd (omega arith)
+row_some zero base l = absurd (omega (arith, row_ones 0 base (omega arith)))
+row_some (suc x) base l = omega arith

@@ -1,29 +1,29 @@
 -- One code among the marks: what is marked once it is taken out (`removed_says`), whether it is marked (`held_says`), and whether some marked code
 -- has all of its literals (`covered_says`).
 -- A code has all of another's literals where its row has all of the other's row and its bit all of the other's bit (`split`, `join`).
--- The bits that have all of one bit's are that bit closed upwards (`bits_above`); the rows are met one after the other, since no row between i and
--- `bit_or (i + 1) high` has all of high (`next_row`), and what was found is what they mark (`Gathered`).
+-- The bits that have all of one bit's are that bit closed upwards (`bits_above`); what was found is what the rows mark that were met and have all of
+-- the code's row (`Gathered`).
 use borrow.Author.Tests.{eqb-false, ne_eqb, not-true}
-use mathlib.Core.Path.{◌≡◌, refl, sym, ap, ◌∙◌}
-use mathlib.Core.Bool.{true, false, not, false≢true}
+use mathlib.Core.Path.{◌≡◌, sym, ap, ◌∙◌}
+use mathlib.Core.Bool.{true, not}
 use mathlib.Core.Logic.{◌⊎◌, inl, inr, ◌≢◌, ◌↔◌}
 use mathlib.Core.List.{List}
-use Prim.Native.Nat.{ℕ, zero, suc, ◌+◌, ◌-◌, ◌*◌, ◌/◌, ◌%◌, ◌^◌, ◌≤◌, ◌<◌, min}
+use Prim.Native.Nat.{ℕ, suc, ◌+◌, ◌-◌, ◌*◌, ◌/◌, ◌%◌, ◌^◌, ◌≤◌, ◌<◌, min}
 use native.Mathlib.Nat.{mod-lt}
 use native.Mathlib.Decide.{ℕ_discrete, dec_le}
 use native.Mathlib.Omega.{arith}
-use lib.Bits.{bit_and, bit_or, bit_xor, and_mask, and_le_l, and_le_r, or_step, or_zero_r, or_add_and}
+use lib.Bits.{bit_and, bit_or, and_mask, and_le_l, and_le_r}
 use lib.Dec.{eqb}
 use lib.ListN.{length, get_or, set}
 use lib.Pow.{pow_mono, pow_pos}
 use lib.Seq.{get_or-set_same, get_or-set_other}
 use Rattle.fuzzy.specs.Phrase.{has, Subsumes}
-use Rattle.fuzzy.proofs.Literals.{has_lt, has_zero, has_next, has_or, has_and, has_none, has_one, has_itself, has_high}
-use Rattle.fuzzy.proofs.Subsumes.{subsumes_and, subsumes_antisym, subsumes_empty, subsumes_or_lacks, subsumes_refl}
+use Rattle.fuzzy.proofs.Literals.{has_lt, has_or, has_and, has_none, has_one, has_itself, has_high}
+use Rattle.fuzzy.proofs.Subsumes.{subsumes_and, subsumes_antisym, subsumes_empty, subsumes_or_lacks}
 use Rattle.rows.specs.Square.{square, Marked}
 use Rattle.rows.specs.Stage.{raise, closed_up}
 use Rattle.rows.specs.Pass.{Removed, Held, Covered}
-use Rattle.rows.proofs.Rows.{has_bit, has_row, out_shared}
+use Rattle.rows.proofs.Rows.{has_bit, has_row}
 use Rattle.rows.proofs.Stage.{closed_up_lem}
 
 -- 1 shifted by less than 64 is a power of two
@@ -34,26 +34,20 @@ one_shifted k l = omega (arith, pow_mono {i = k} {j = 63} (omega arith))
 tested : (x : ℕ) → (not (eqb x 0) ≡ true) ↔ (x ≢ 0)
 tested x = (λ e z. eqb-false x 0 (not-true (eqb x 0) e) z, λ d. ap not (ne_eqb x 0 d))
 
--- the row without one bit
-abbrev pub cleared : ℕ → ℕ → ℕ
-cleared x k = bit_xor x (bit_and x (1 * 2 ^ k % 18446744073709551616))
-
 module _ (m : List ℕ) (code : ℕ) where
-  -- the marks with the code's bit taken out of its row
-  abbrev pub taken : List ℕ
-  taken = set m (code / 64) (cleared (get_or m (code / 64) 0) (code % 64))
+  module _ (v : ℕ) (len : length m ≡ 64) (l : code < 4096)
+      (out : (b : ℕ) → b < 64 → has v b ≡ min (has (get_or m (code / 64) 0) b) (1 - has (1 * 2 ^ (code % 64) % 18446744073709551616) b)) where
+    -- the marks with the code's bit taken out of its row
+    abbrev taken : List ℕ
+    taken = set m (code / 64) v
 
-  module _ (len : length m ≡ 64) (l : code < 4096) where
     -- a bit of the code's own row
-    cleared_has : (b : ℕ) → has (cleared (get_or m (code / 64) 0) (code % 64)) b ≡ min (has (get_or m (code / 64) 0) b) (1 - has (2 ^ (code % 64)) b)
-    cleared_has b =
-        rw (one_shifted (code % 64) (mod-lt code (omega arith))) (out_shared (get_or m (code / 64) 0) (2 ^ (code % 64)) b)
+    taken_has : (b : ℕ) → b < 64 → has (get_or taken (code / 64) 0) b ≡ min (has (get_or m (code / 64) 0) b) (1 - has (2 ^ (code % 64)) b)
+    taken_has b lb = rw (get_or-set_same m (code / 64) v 0 (omega arith), ← one_shifted (code % 64) (mod-lt code (omega arith))) (out b lb)
 
     taken_itself : square taken code ≡ 0
     unfolding square
-    taken_itself =
-        rw (get_or-set_same m (code / 64) (cleared (get_or m (code / 64) 0) (code % 64)) 0 (omega arith), cleared_has (code % 64))
-        (omega (arith, has_itself (code % 64)))
+    taken_itself = omega (arith, taken_has (code % 64) (omega arith), has_itself (code % 64))
 
     taken_other : (c : ℕ) → c ≢ code → square taken c ≡ square m c
     unfolding square
@@ -61,12 +55,12 @@ module _ (m : List ℕ) (code : ℕ) where
       where
         at : Dec (c / 64 ≡ code / 64) → has (get_or taken (c / 64) 0) (c % 64) ≡ has (get_or m (c / 64) 0) (c % 64)
         at (yes e) =
-            rw (e, get_or-set_same m (code / 64) (cleared (get_or m (code / 64) 0) (code % 64)) 0 (omega arith), cleared_has (c % 64))
+            rw (e, taken_has (c % 64) (omega arith))
             (omega (arith, has_one (code % 64) (c % 64) (λ s. d (omega arith)), has_lt (get_or m (code / 64) 0) (c % 64)))
-        at (no n) = rw (get_or-set_other m (code / 64) (c / 64) (cleared (get_or m (code / 64) 0) (code % 64)) 0 n)
+        at (no n) = rw (get_or-set_other m (code / 64) (c / 64) v 0 n)
 
     -- with the code's bit taken out of its row the other marks are left
-    pub removed_says : Removed m code taken
+    pub removed_says : Removed m code (set m (code / 64) v)
     removed_says c lc = (
       λ (k, e). at e (ℕ_discrete c code),
       λ ((k, e), d). (lc, taken_other c d ∙ e),
@@ -75,10 +69,6 @@ module _ (m : List ℕ) (code : ℕ) where
         at : square taken c ≡ 1 → Dec (c ≡ code) → Marked m c × (c ≢ code)
         at e (yes s) = let z : square taken c ≡ 0 = rw s taken_itself in absurd (omega arith)
         at e (no d) = ((lc, sym (taken_other c d) ∙ e), d)
-
-  -- without a code that is none of the 4,096 the marks are as they were
-  pub removed_none : 4096 ≤ code → Removed m code m
-  removed_none h c lc = (λ mk. (mk, λ e. absurd (omega arith)), λ (mk, d). mk)
 
   -- the code's bit in its row says whether it is marked
   pub held_says : code < 4096 → Held m code (not (eqb (bit_and (get_or m (code / 64) 0 / 2 ^ (code % 64)) 1) 0))
@@ -90,10 +80,6 @@ module _ (m : List ℕ) (code : ℕ) where
 
       test : (not (eqb (bit_and (get_or m (code / 64) 0 / 2 ^ (code % 64)) 1) 0) ≡ true) ↔ (bit_and (get_or m (code / 64) 0 / 2 ^ (code % 64)) 1 ≢ 0)
       test = tested (bit_and (get_or m (code / 64) 0 / 2 ^ (code % 64)) 1)
-
-  -- a code that is none of the 4,096 is not marked
-  pub held_none : 4096 ≤ code → Held m code false
-  held_none h = (λ e. absurd (false≢true e), λ (l, e). absurd (omega arith))
 
 -- a code lacks the literals from 6 on where it is below 64, so closing over them changes nothing
 up_few : (f : ℕ → ℕ) (k c : ℕ) → c < 64 → 6 ≤ k → closed_up (suc k) f c ≡ closed_up k f c
@@ -141,83 +127,41 @@ module _ (q code : ℕ) where
       at (yes h) = let e : 6 + (k - 6) ≡ k = omega arith in rw e at (late (k - 6) (omega arith))
       at (no d) = rw (has_bit code k (omega arith), has_bit q k (omega arith)) (low k l)
 
--- halves have the literals but the first
-half_within : (n i h : ℕ) → ((k : ℕ) → k < suc n → has h k ≤ has i k) → (k : ℕ) → k < n → has (h / 2) k ≤ has (i / 2) k
-half_within n i h s k l = rw (has_next h k, has_next i k) at (s (suc k) (omega arith))
-
--- joining literals that are there changes nothing
-or_within : (n i h : ℕ) → h < 2 ^ n → ((k : ℕ) → k < n → has h k ≤ has i k) → bit_or i h ≡ i
-or_within zero i h l s = let e : h ≡ 0 = omega arith in rw e (or_zero_r i)
-or_within (suc n) i h l s =
-    omega (arith, or_step i h, or_within n (i / 2) (h / 2) (omega arith) (half_within n i h s), s 0 (omega arith), has_zero h, has_zero i)
-
--- after i, no row before `bit_or (i + 1) high` has all of high
-next_row : (n i r h : ℕ) → h < 2 ^ n → r < 2 ^ n → ((k : ℕ) → k < n → has h k ≤ has i k) → ((k : ℕ) → k < n → has h k ≤ has r k)
-    → i < r → bit_or (i + 1) h ≤ r
-next_row zero i r h lh lr si sr l = absurd (omega arith)
-next_row (suc n) i r h lh lr si sr l =
-    at (ℕ_discrete (i % 2) 1)
-    (next_row n (i / 2) (r / 2) (h / 2) (omega arith) (omega arith) (half_within n i h si) (half_within n r h sr))
-  where
-    at : Dec (i % 2 ≡ 1) → (i / 2 < r / 2 → bit_or (i / 2 + 1) (h / 2) ≤ r / 2) → bit_or (i + 1) h ≤ r
-    at (yes odd) more =
-        let up : (i + 1) / 2 ≡ i / 2 + 1 = omega arith in
-        let step = rw up at (or_step (i + 1) h) in
-        let rest = more (omega arith) in
-        omega (arith, sr 0 (omega arith), has_zero h, has_zero r)
-    at (no even) more =
-        let up : (i + 1) / 2 ≡ i / 2 = omega arith in
-        let step = rw up at (or_step (i + 1) h) in
-        omega (arith, or_within n (i / 2) (h / 2) (omega arith) (half_within n i h si), si 0 (omega arith), has_zero h, has_zero i)
-
--- the next row is a later one
-pub next_more : (i h : ℕ) → i < bit_or (i + 1) h
-next_more i h = omega (arith, or_add_and (i + 1) h, and_le_r (i + 1) h)
-
 module _ (m : List ℕ) (high : ℕ) where
   -- bit b is marked in a row before i that has all of high
   abbrev Among : ℕ → ℕ → Type 0
-  Among i b = (r : ℕ) × (r < i) × (r < 64) × Subsumes 3 r high × (has (get_or m r 0) b ≡ 1)
+  Among i b = (r : ℕ) × (r < i) × (r < 64) × (bit_and r high ≡ high) × (has (get_or m r 0) b ≡ 1)
 
-  -- found has the bits that are marked in the rows before i that have all of high, and i has all of it; where high is no row nothing is found
+  -- found has the bits that are marked in the rows before i that have all of high
   abbrev pub Gathered : ℕ → ℕ → Type 0
-  Gathered found i = (high < 64 → Subsumes 3 i high × ((b : ℕ) → (has found b ≡ 1) ↔ Among i b)) × (64 ≤ high → (found ≡ 0) × (64 ≤ i))
+  Gathered found i = (b : ℕ) → (has found b ≡ 1) ↔ Among i b
 
   -- no row before high has all of it
-  pub gathered_start : Gathered 0 high
-  gathered_start = (
-    λ l. (
-      subsumes_refl 3 high,
-      λ b. (
-        λ e. absurd (omega (arith, has_none 0 b (pow_pos b))),
-        λ (r, lr, l64, s, e). absurd (omega (arith, (subsumes_and 3 r high l).0 s, and_le_l r high)),
-      ),
-    ),
-    λ h. (refl, h),
-  )
+  pub gathered_none : Gathered 0 high
+  gathered_none b = (λ e. absurd (omega (arith, has_none 0 b (pow_pos b))), λ (r, lr, l, s, e). absurd (omega (arith, and_le_l r high)))
 
-  -- a turn gathers row i and goes on to the next that has all of high
-  pub gathered_next : (found i : ℕ) → i < 64 → Gathered found i → Gathered (bit_or found (get_or m i 0)) (bit_or (i + 1) high)
-  gathered_next found i li (g, none) = (λ l. turn l, λ h. absurd (omega (arith, (none h).1)))
+  -- a row that has all of high is gathered
+  pub gathered_more : (found i : ℕ) → i < 64 → bit_and i high ≡ high → Gathered found i → Gathered (bit_or found (get_or m i 0)) (i + 1)
+  gathered_more found i li all g b = (λ e. there e (ℕ_discrete (has found b) 1), λ (r, lr, l, s, e). back r lr l s e (ℕ_discrete r i))
     where
-      turn : high < 64 → Subsumes 3 (bit_or (i + 1) high) high × ((b : ℕ) → (has (bit_or found (get_or m i 0)) b ≡ 1) ↔ Among (bit_or (i + 1) high) b)
-      turn l = (
-        λ k lk. omega (arith, has_or (i + 1) high k),
-        λ b. (λ e. there b e (ℕ_discrete (has found b) 1), λ (r, lr, l64, s, e). back b r lr l64 s e (ℕ_discrete r i)),
-      )
-        where
-          there : (b : ℕ) → has (bit_or found (get_or m i 0)) b ≡ 1 → Dec (has found b ≡ 1) → Among (bit_or (i + 1) high) b
-          there b e (yes o) = let (r, lr, l64, s, h) = ((g l).1 b).0 o in (r, omega (arith, next_more i high), l64, s, h)
-          there b e (no d) = (i, next_more i high, li, (g l).0, omega (arith, has_or found (get_or m i 0) b, has_lt found b))
+      there : has (bit_or found (get_or m i 0)) b ≡ 1 → Dec (has found b ≡ 1) → Among (i + 1) b
+      there e (yes o) = let (r, lr, l, s, h) = (g b).0 o in (r, omega arith, l, s, h)
+      there e (no d) = (i, omega arith, li, all, omega (arith, has_or found (get_or m i 0) b, has_lt found b))
 
-          back : (b r : ℕ) → r < bit_or (i + 1) high → r < 64 → Subsumes 3 r high → has (get_or m r 0) b ≡ 1 → Dec (r ≡ i)
-              → has (bit_or found (get_or m i 0)) b ≡ 1
-          back b r lr l64 s e (yes o) = omega (arith, has_or found (get_or m i 0) b, rw o at e, has_lt found b)
-          back b r lr l64 s e (no d) = at (dec_le i r)
-            where
-              at : Dec (i ≤ r) → has (bit_or found (get_or m i 0)) b ≡ 1
-              at (yes h) = absurd (omega (arith, next_row 6 i r high l l64 (g l).0 s (omega arith)))
-              at (no h) = omega (arith, has_or found (get_or m i 0) b, ((g l).1 b).1 (r, omega arith, l64, s, e), has_lt (get_or m i 0) b)
+      back : (r : ℕ) → r < i + 1 → r < 64 → bit_and r high ≡ high → has (get_or m r 0) b ≡ 1 → Dec (r ≡ i) → has (bit_or found (get_or m i 0)) b ≡ 1
+      back r lr l s e (yes o) = omega (arith, has_or found (get_or m i 0) b, rw o at e, has_lt found b)
+      back r lr l s e (no d) = omega (arith, has_or found (get_or m i 0) b, (g b).1 (r, omega arith, l, s, e), has_lt (get_or m i 0) b)
+
+  -- and one that has not is passed over
+  pub gathered_same : (found i : ℕ) → bit_and i high ≢ high → Gathered found i → Gathered found (i + 1)
+  gathered_same found i not_all g b = (
+    λ e. let (r, lr, l, s, h) = (g b).0 e in (r, omega arith, l, s, h),
+    λ (r, lr, l, s, e). back r lr l s e (ℕ_discrete r i),
+  )
+    where
+      back : (r : ℕ) → r < i + 1 → r < 64 → bit_and r high ≡ high → has (get_or m r 0) b ≡ 1 → Dec (r ≡ i) → has found b ≡ 1
+      back r lr l s e (yes o) = absurd (not_all (rw o at s))
+      back r lr l s e (no d) = (g b).1 (r, omega arith, l, s, e)
 
 -- a row that is not empty has a bit
 some_bit : (x : ℕ) → x < 18446744073709551616 → x ≢ 0 → (b : ℕ) × (b < 64) × (has x b ≡ 1)
@@ -228,42 +172,34 @@ some_bit x l d = at (subsumes_or_lacks 32 0 x)
     at (inr (k, lk, h)) = (k, lk, omega (arith, has_lt x k))
 
 -- once all rows are met, a bit that was found and has all of the code's bit says that the code is covered
-gathered_all : (m : List ℕ) (code found i up : ℕ) → 64 ≤ i → up < 18446744073709551616
-    → (code / 64 < 64 → Subsumes 3 i (code / 64) × ((b : ℕ) → (has found b ≡ 1) ↔ Among m (code / 64) i b))
+pub covered_says : (m : List ℕ) (code found i up : ℕ) → 64 ≤ i → up < 18446744073709551616 → Gathered m (code / 64) found i
     → ((b : ℕ) → b < 64 → has up b ≡ closed_up 6 (has (1 * 2 ^ (code % 64) % 18446744073709551616)) b)
-    → code < 4096 → (not (eqb (bit_and found up) 0) ≡ true) ↔ ((q : ℕ) × Marked m q × Subsumes 6 q code)
+    → Covered m code (not (eqb (bit_and found up) 0))
 unfolding square
-gathered_all m code found i up all fits g above l = (
+covered_says m code found i up past fits g above = (
   λ t. let (b, lb, e) = some_bit (bit_and found up) (omega (arith, and_le_r found up)) ((tested (bit_and found up)).0 t) in there b lb e,
-  λ (q, (lq, e), s). (tested (bit_and found up)).1 (λ z. back q lq e s z),
+  λ (l, (q, (lq, e), s)). (tested (bit_and found up)).1 (λ z. back q l lq e s z),
 )
   where
     mask : (b : ℕ) → b < 64 → (has up b ≡ 1) ↔ Subsumes 6 b (code % 64)
     mask b lb =
         rw (above b lb, one_shifted (code % 64) (mod-lt code (omega arith))) (bits_above (code % 64) b (mod-lt code (omega arith)) lb)
 
-    there : (b : ℕ) → b < 64 → has (bit_and found up) b ≡ 1 → (q : ℕ) × Marked m q × Subsumes 6 q code
+    there : (b : ℕ) → b < 64 → has (bit_and found up) b ≡ 1 → (code < 4096) × ((q : ℕ) × Marked m q × Subsumes 6 q code)
     there b lb e =
         let both = has_and found up b in
-        let (r, lr, l64, s, o) = ((g (omega arith)).1 b).0 (omega (arith, has_lt found b)) in
+        let (r, lr, l64, s, o) = (g b).0 (omega (arith, has_lt found b)) in
         let row : (r * 64 + b) / 64 ≡ r = omega arith in
         let bit : (r * 64 + b) % 64 ≡ b = omega arith in
-        let low = (mask b lb).0 (omega (arith, has_lt up b)) in
-        (r * 64 + b, (omega arith, rw (row, bit) o), join (r * 64 + b) code (rw row s) (rw bit low))
+        let in_rows : code / 64 < 64 = omega (arith, s, and_le_l r (code / 64)) in
+        let rows = (subsumes_and 3 r (code / 64) in_rows).1 s in
+        let bits = (mask b lb).0 (omega (arith, has_lt up b)) in
+        (omega arith, (r * 64 + b, (omega arith, rw (row, bit) o), join (r * 64 + b) code (rw row rows) (rw bit bits)))
 
-    back : (q : ℕ) → q < 4096 → square m q ≡ 1 → Subsumes 6 q code → bit_and found up ≡ 0 → ⊥
-    back q lq e s z =
-        let (high, low) = split q code s in
-        let f = ((g (omega arith)).1 (q % 64)).1 (q / 64, omega arith, omega arith, high, e) in
-        let u = (mask (q % 64) (mod-lt q (omega arith))).1 low in
+    back : (q : ℕ) → code < 4096 → q < 4096 → square m q ≡ 1 → Subsumes 6 q code → bit_and found up ≡ 0 → ⊥
+    back q l lq e s z =
+        let (rows, bits) = split q code s in
+        let all = (subsumes_and 3 (q / 64) (code / 64) (omega arith)).0 rows in
+        let f = (g (q % 64)).1 (q / 64, omega arith, omega arith, all, e) in
+        let u = (mask (q % 64) (mod-lt q (omega arith))).1 bits in
         omega (arith, has_and found up (q % 64), ap (λ (x : ℕ). has x (q % 64)) z, has_none 0 (q % 64) (pow_pos (q % 64)))
-
--- and where the code is none of the 4,096 nothing is found
-pub covered_says : (m : List ℕ) (code found i up : ℕ) → 64 ≤ i → up < 18446744073709551616 → Gathered m (code / 64) found i
-    → ((b : ℕ) → b < 64 → has up b ≡ closed_up 6 (has (1 * 2 ^ (code % 64) % 18446744073709551616)) b)
-    → Covered m code (not (eqb (bit_and found up) 0))
-covered_says m code found i up all fits (g, none) above = (λ t. at t (dec_le 4096 code), λ (l, s). (gathered_all m code found i up all fits g above l).1 s)
-  where
-    at : not (eqb (bit_and found up) 0) ≡ true → Dec (4096 ≤ code) → (code < 4096) × ((q : ℕ) × Marked m q × Subsumes 6 q code)
-    at t (no d) = (omega arith, (gathered_all m code found i up all fits g above (omega arith)).0 t)
-    at t (yes h) = absurd ((tested (bit_and found up)).0 t (omega (arith, and_le_l found up, (none (omega arith)).0)))

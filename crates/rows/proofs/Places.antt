@@ -1,44 +1,27 @@
--- Exchanging the digits 0 and 3 of six variables: first the rows change places, then the bits of each row (`exchange_done`).
+-- Exchanging the digits 0 and 3 of six variables: the rows change places, and so do the bits of each row (`exchange_done`).
 -- One exchange of bits s apart (`turned`) reads bit `moved s mask k` for bit k, whatever the row holds; three of them after each other
--- read bit `exchange 3 k`, by one computed test over the 64 bits (`nothing_wrong`). The rows change places by `exchange 3` as well,
--- since `exchange 6` is one of each half (`exchange_split`).
+-- read bit `exchange 3 k`, by computed tests over the 64 bits (`three_moved`). The rows change places by `exchange 3` as well
+-- (`partner_exchanged`), since `exchange 6` is one of each half (`exchange_split`).
 use mathlib.Core.Path.{◌≡◌, refl, sym, ap, ◌∙◌}
-use mathlib.Core.Logic.{◌↔◌, ⊎_elim}
+use mathlib.Core.Logic.{◌↔◌}
+use mathlib.Core.Bool.{Bool, true, ◌&&◌}
 use mathlib.Core.List.{List}
 use Prim.Native.Nat.{ℕ, zero, suc, ◌+◌, ◌-◌, ◌*◌, ◌/◌, ◌%◌, ◌^◌, ◌≤◌, ◌<◌, min}
-use native.Mathlib.Nat.{min-zero, mul_assoc, eq-or-lt_of_le, le_of_suc-le-suc}
+use native.Mathlib.Nat.{min-zero, mul_assoc}
 use native.Mathlib.Decide.{dec_le}
 use native.Mathlib.Omega.{arith}
+use borrow.Author.Tests.{leb-true}
 use lib.Bits.{bit_and, bit_xor, differ, shifted_even}
-use lib.ListN.{length, get_or, set, length-set}
-use lib.Seq.{get_or-set_same, get_or-set_other}
+use lib.Dec.{eqb, leb}
+use lib.ListN.{get_or}
 use lib.Pow.{shr-shr, shl-shr, pow-add}
 use Rattle.fuzzy.specs.Phrase.{digits, has}
 use Rattle.fuzzy.proofs.Digits.{number}
 use Rattle.fuzzy.proofs.Literals.{has_lt, has_and, has_xor, has_mod}
+use Rattle.fuzzy.proofs.Search.{both_first, both_second, eqb_eq}
 use Rattle.fuzzy.proofs.Within.{swap, exchange, exchange_lt}
+use Rattle.rows.proofs.Every.{every, every_at}
 use Rattle.rows.specs.Square.{square, Marked}
-use Rattle.rows.specs.Swap.{row_exchanged, bit_exchanged}
-
--- the sum of f below n
-total : (ℕ → ℕ) → ℕ → ℕ
-total f zero = 0
-total f (suc n) = f n + total f n
-
--- a sum of nothing has nothing anywhere
-total_none : (f : ℕ → ℕ) (n k : ℕ) → k < n → total f n ≡ 0 → f k ≡ 0
-unfolding total
-total_none f zero k l e = absurd (omega arith)
-total_none f (suc n) k l e =
-    ⊎_elim (λ (same : k ≡ n). rw same (omega arith)) (λ less. total_none f n k less (omega arith)) (eq-or-lt_of_le (le_of_suc-le-suc l))
-
--- how far a is above b
-over : ℕ → ℕ → ℕ
-over a b = a - b
-
-over_none : (a b : ℕ) → over a b ≡ 0 → a ≤ b
-unfolding over
-over_none a b e = omega arith
 
 -- a literal of a code moved down by s
 has_shr : (x s k : ℕ) → has (x / 2 ^ s) k ≡ has x (s + k)
@@ -140,66 +123,66 @@ none₁ = 4222189076152335
 abbrev pub none₂ : ℕ
 none₂ = 65535
 
--- what is wrong with bit k, nothing if three exchanges take it where all its digits are exchanged
-wrong : ℕ → ℕ
-wrong k =
-    let a : ℕ = moved 3 none₀ k in
-    let b : ℕ = moved 12 none₁ a in
-    let d : ℕ = moved 48 none₂ b in
-    over (has none₀ k + has (none₀ * 2 ^ 3) k) 1 + over (has none₁ a + has (none₁ * 2 ^ 12) a) 1 + over (has none₂ b + has (none₂ * 2 ^ 48) b) 1
-    + over a 63 + over b 63 + over d (exchange 3 k) + over (exchange 3 k) d
+-- whether an exchange of bits reads, for bit k, a bit of the row, and one mask at most has bit k
+fine : ℕ → ℕ → ℕ → Bool
+fine s mask k = leb (has mask k + has (mask * 2 ^ s) k) 1 && leb (moved s mask k) 63
 
-nothing_wrong : total wrong 64 ≡ 0
-unfolding total wrong over has exchange digits number swap
-nothing_wrong = refl
+fine₀ : every (fine 3 none₀) 64 ≡ true
+unfolding every fine has
+fine₀ = refl
+
+fine₁ : every (fine 12 none₁) 64 ≡ true
+unfolding every fine has
+fine₁ = refl
+
+fine₂ : every (fine 48 none₂) 64 ≡ true
+unfolding every fine has
+fine₂ = refl
+
+-- so it brings that bit there
+turn : (s mask : ℕ) → every (fine s mask) 64 ≡ true → (row k : ℕ) → k < 64
+    → (moved s mask k < 64) × (has (turned s mask row) k ≡ has row (moved s mask k))
+unfolding fine
+turn s mask all row k l =
+    let one = leb (has mask k + has (mask * 2 ^ s) k) 1 in
+    let low = leb (moved s mask k) 63 in
+    let both : one && low ≡ true = every_at (fine s mask) 64 all k l in
+    let in-row = leb-true (moved s mask k) 63 (both_second one low both) in
+    (omega arith, turned_has s mask row k l (leb-true (has mask k + has (mask * 2 ^ s) k) 1 (both_first one low both)))
+
+-- three exchanges read the bits with their digits exchanged
+three_moved : every (λ k. eqb (moved 48 none₂ (moved 12 none₁ (moved 3 none₀ k))) (exchange 3 k)) 64 ≡ true
+unfolding every has exchange digits number swap
+three_moved = refl
 
 -- three exchanges of bits after each other exchange the digits of a row's codes
 pub row_exchanged_lem : (row k : ℕ) → k < 64 → has (turned 3 none₀ (turned 12 none₁ (turned 48 none₂ row))) k ≡ has row (exchange 3 k)
-unfolding wrong
 row_exchanged_lem row k l =
     let a : ℕ = moved 3 none₀ k in
     let b : ℕ = moved 12 none₁ a in
-    let d : ℕ = moved 48 none₂ b in
-    let all : wrong k ≡ 0 = total_none wrong 64 k l nothing_wrong in
-    let first = over_none (has none₀ k + has (none₀ * 2 ^ 3) k) 1 (omega arith) in
-    let second = over_none (has none₁ a + has (none₁ * 2 ^ 12) a) 1 (omega arith) in
-    let third = over_none (has none₂ b + has (none₂ * 2 ^ 48) b) 1 (omega arith) in
-    let la = over_none a 63 (omega arith) in
-    let lb = over_none b 63 (omega arith) in
-    let ld = over_none d (exchange 3 k) (omega arith) in
-    let le = over_none (exchange 3 k) d (omega arith) in
-    let e : d ≡ exchange 3 k = omega arith in
-    turned_has 3 none₀ (turned 12 none₁ (turned 48 none₂ row)) k l first
-    ∙ turned_has 12 none₁ (turned 48 none₂ row) a (omega arith) second
-    ∙ turned_has 48 none₂ row b (omega arith) third
-    ∙ ap (has row) e
+    let first = turn 3 none₀ fine₀ (turned 12 none₁ (turned 48 none₂ row)) k l in
+    let second = turn 12 none₁ fine₁ (turned 48 none₂ row) a first.0 in
+    let third = turn 48 none₂ fine₂ row b second.0 in
+    let e : moved 48 none₂ b ≡ exchange 3 k =
+    eqb_eq (moved 48 none₂ b) (exchange 3 k)
+    (every_at (λ k. eqb (moved 48 none₂ (moved 12 none₁ (moved 3 none₀ k))) (exchange 3 k)) 64 three_moved k l) in
+    first.1 ∙ second.1 ∙ third.1 ∙ ap (has row) e
 
--- a number of two digits with the bits of each digit flipped, but for the digits with unlike bits
+-- a number of three digits with the bits of each digit flipped, but for the digits with unlike bits
 abbrev pub flipped : ℕ → ℕ
-flipped i = bit_xor (bit_xor i 15) (3 * bit_and (bit_xor i (i / 2)) 5)
+flipped i = bit_xor (bit_xor i 63) (3 * bit_and (bit_xor i (i / 2)) 21)
 
-flipped_test : total (λ i. over (flipped i) (exchange 2 i) + over (exchange 2 i) (flipped i)) 16 ≡ 0
-unfolding total over exchange digits number swap
-flipped_test = refl
+all_flipped : every (λ i. eqb (flipped i) (exchange 3 i)) 64 ≡ true
+unfolding every exchange digits number swap
+all_flipped = refl
 
--- a number of two digits is so exchanged
-pub partner_exchanged : (i : ℕ) → i < 16 → (flipped i < 16) × (flipped i ≡ exchange 2 i)
+-- a row's number is so exchanged
+pub partner_exchanged : (i : ℕ) → i < 64 → (flipped i < 64) × (flipped i ≡ exchange 3 i)
 partner_exchanged i l =
-    let both = total_none (λ i. over (flipped i) (exchange 2 i) + over (exchange 2 i) (flipped i)) 16 i l flipped_test in
-    let above = over_none (flipped i) (exchange 2 i) (omega arith) in
-    let below = over_none (exchange 2 i) (flipped i) (omega arith) in
-    (omega (arith, exchange_lt 2 i), omega arith)
+    let e : flipped i ≡ exchange 3 i = eqb_eq (flipped i) (exchange 3 i) (every_at (λ i. eqb (flipped i) (exchange 3 i)) 64 all_flipped i l) in
+    (omega (arith, exchange_lt 3 i), e)
 
--- a number of three digits is exchanged with its last digit apart
-exchange_last : (i d : ℕ) → d < 4 → exchange 3 (4 * i + d) ≡ 4 * exchange 2 i + swap d
-unfolding exchange digits number
-exchange_last i d l =
-    let e₂ : (4 * i + d) / 16 % 4 ≡ i / 4 % 4 = omega arith in
-    let e₁ : (4 * i + d) / 4 % 4 ≡ i / 1 % 4 = omega arith in
-    let e₀ : (4 * i + d) / 1 % 4 ≡ d = omega arith in
-    rw (e₂, e₁, e₀) (omega arith)
-
--- and one of six digits by halves
+-- a number of six digits is exchanged by halves
 exchange_split : (c : ℕ) → exchange 6 c ≡ exchange 3 (c / 64) * 64 + exchange 3 (c % 64)
 unfolding exchange digits number
 exchange_split c =
@@ -211,98 +194,16 @@ exchange_split c =
     let e₀ : c % 64 / 1 % 4 ≡ c / 1 % 4 = omega arith in
     rw (e₅, e₄, e₃, e₂, e₁, e₀) (omega arith)
 
--- the rows and the bits exchanged are the codes exchanged
-both_exchanged : (c : ℕ) → row_exchanged (bit_exchanged c) ≡ exchange 6 c
-unfolding row_exchanged bit_exchanged
-both_exchanged c =
-    let l : exchange 3 (c % 64) < 64 = exchange_lt 3 (c % 64) in
-    let row : (c / 64 * 64 + exchange 3 (c % 64)) / 64 ≡ c / 64 = omega arith in
-    let bit : (c / 64 * 64 + exchange 3 (c % 64)) % 64 ≡ exchange 3 (c % 64) = omega arith in
-    rw (row, bit) (sym (exchange_split c))
-
--- after a store the entries before it and its own are as they are to be
-stored : (f : ℕ → ℕ) (list : List ℕ) (n v : ℕ) → n < length list → ((k : ℕ) → k < n → get_or list k 0 ≡ f k) → v ≡ f n
-    → (k : ℕ) → k < suc n → get_or (set list n v) k 0 ≡ f k
-stored f list n v l before e k lk = ⊎_elim same less (eq-or-lt_of_le (le_of_suc-le-suc lk))
+-- rows in their new places, their bits exchanged, are the codes exchanged
+pub exchange_done : (rows out : List ℕ)
+    → ((i b : ℕ) → i < 64 → b < 64 → has (get_or out i 0) b ≡ has (get_or rows (exchange 3 i) 0) (exchange 3 b))
+    → (c : ℕ) → c < 4096 → Marked out c ↔ Marked rows (exchange 6 c)
+unfolding square
+exchange_done rows out each c l = (λ m. (exchange_lt 6 c, sym same ∙ m.1), λ m. (l, same ∙ m.1))
   where
-    same : k ≡ n → get_or (set list n v) k 0 ≡ f k
-    same ek = rw ek (get_or-set_same list n v 0 l ∙ e)
-
-    less : k < n → get_or (set list n v) k 0 ≡ f k
-    less lt = get_or-set_other list n k v 0 (λ ek. omega arith) ∙ before k lt
-
-module _ (rows out : List ℕ) where
-  -- the first n rows are in their new places
-  abbrev pub Placed : ℕ → Type 0
-  Placed n = (k : ℕ) → k < n → get_or out k 0 ≡ get_or rows (exchange 3 k) 0
-
-  -- the first n rows have their bits exchanged, the others are as they were
-  abbrev pub Exchanging : ℕ → Type 0
-  Exchanging n =
-      ((k b : ℕ) → k < n → b < 64 → has (get_or out k 0) b ≡ has (get_or rows k 0) (exchange 3 b)) × ((k : ℕ) → n ≤ k → get_or out k 0 ≡ get_or rows k 0)
-
-  -- all rows in their new places are the codes with their rows exchanged
-  pub rows_placed : Placed 64 → (c : ℕ) → c < 4096 → square out c ≡ square rows (row_exchanged c)
-  unfolding square row_exchanged
-  rows_placed all c l =
-      let row : (exchange 3 (c / 64) * 64 + c % 64) / 64 ≡ exchange 3 (c / 64) = omega arith in
-      let bit : (exchange 3 (c / 64) * 64 + c % 64) % 64 ≡ c % 64 = omega arith in
-      rw (row, bit, all (c / 64) (omega arith))
-
-  -- all rows with their bits exchanged are the codes with their bits exchanged
-  pub bits_exchanged : Exchanging 64 → (c : ℕ) → c < 4096 → square out c ≡ square rows (bit_exchanged c)
-  unfolding square bit_exchanged
-  bits_exchanged all c l =
-      let low : exchange 3 (c % 64) < 64 = exchange_lt 3 (c % 64) in
-      let row : (c / 64 * 64 + exchange 3 (c % 64)) / 64 ≡ c / 64 = omega arith in
-      let bit : (c / 64 * 64 + exchange 3 (c % 64)) % 64 ≡ exchange 3 (c % 64) = omega arith in
-      rw (row, bit) (all.0 (c / 64) (c % 64) (omega arith) (omega arith))
-
-  -- one row more
-  pub exchanging_step : (n v : ℕ) → n < length out → Exchanging n → ((b : ℕ) → b < 64 → has v b ≡ has (get_or out n 0) (exchange 3 b))
-      → ((k b : ℕ) → k < n + 1 → b < 64 → has (get_or (set out n v) k 0) b ≡ has (get_or rows k 0) (exchange 3 b))
-      × ((k : ℕ) → n + 1 ≤ k → get_or (set out n v) k 0 ≡ get_or rows k 0)
-  exchanging_step n v l (done, rest) e = (now, λ k lk. get_or-set_other out n k v 0 (λ ek. omega arith) ∙ rest k (omega arith))
-    where
-      now : (k b : ℕ) → k < n + 1 → b < 64 → has (get_or (set out n v) k 0) b ≡ has (get_or rows k 0) (exchange 3 b)
-      now k b lk lb = ⊎_elim same less (eq-or-lt_of_le (le_of_suc-le-suc (omega arith)))
-        where
-          same : k ≡ n → has (get_or (set out n v) k 0) b ≡ has (get_or rows k 0) (exchange 3 b)
-          same ek = rw (ek, get_or-set_same out n v 0 l, ← rest n (omega arith)) (e b lb)
-
-          less : k < n → has (get_or (set out n v) k 0) b ≡ has (get_or rows k 0) (exchange 3 b)
-          less lt = rw (get_or-set_other out n k v 0 (λ ek. omega arith)) (done k b lt lb)
-
-  -- four rows more
-  pub placed_step : (i p : ℕ) → 4 * i + 3 < length out → Placed (4 * i) → p ≡ exchange 2 i → (k : ℕ) → k < 4 * (i + 1)
-      → get_or (set (set (set (set out (4 * i) (get_or rows (4 * p + 3) 0)) (4 * i + 1) (get_or rows (4 * p + 1) 0))
-      (4 * i + 2) (get_or rows (4 * p + 2) 0)) (4 * i + 3) (get_or rows (4 * p) 0)) k 0 ≡ get_or rows (exchange 3 k) 0
-  unfolding swap
-  placed_step i p l done e k lk =
-      let last = exchange_last i in
-      let f : ℕ → ℕ = λ j. get_or rows (exchange 3 j) 0 in
-      let from : (x y : ℕ) → x ≡ y → get_or rows x 0 ≡ get_or rows y 0 = λ x y. ap (λ (j : ℕ). get_or rows j 0) in
-      let out₁ = set out (4 * i) (get_or rows (4 * p + 3) 0) in
-      let out₂ = set out₁ (4 * i + 1) (get_or rows (4 * p + 1) 0) in
-      let out₃ = set out₂ (4 * i + 2) (get_or rows (4 * p + 2) 0) in
-      let e₀ : 4 * i ≡ 4 * i + 0 = omega arith in
-      let l₁ = length-set out (4 * i) (get_or rows (4 * p + 3) 0) in
-      let l₂ = length-set out₁ (4 * i + 1) (get_or rows (4 * p + 1) 0) in
-      let l₃ = length-set out₂ (4 * i + 2) (get_or rows (4 * p + 2) 0) in
-      let done₁ = stored f out (4 * i) (get_or rows (4 * p + 3) 0) (omega arith) done
-      (from (4 * p + 3) (exchange 3 (4 * i)) (rw e₀ (omega (arith, last 0 (omega arith))))) in
-      let done₂ = stored f out₁ (4 * i + 1) (get_or rows (4 * p + 1) 0) (omega arith) (λ j lj. done₁ j (omega arith))
-      (from (4 * p + 1) (exchange 3 (4 * i + 1)) (omega (arith, last 1 (omega arith)))) in
-      let done₃ = stored f out₂ (4 * i + 2) (get_or rows (4 * p + 2) 0) (omega arith) (λ j lj. done₂ j (omega arith))
-      (from (4 * p + 2) (exchange 3 (4 * i + 2)) (omega (arith, last 2 (omega arith)))) in
-      stored f out₃ (4 * i + 3) (get_or rows (4 * p) 0) (omega arith) (λ j lj. done₃ j (omega arith))
-      (from (4 * p) (exchange 3 (4 * i + 3)) (omega (arith, last 3 (omega arith)))) k (omega arith)
-
--- exchanging first the rows and then their bits exchanges the codes
-pub exchange_done : (rows mid out : List ℕ) → ((c : ℕ) → c < 4096 → square mid c ≡ square rows (row_exchanged c))
-    → ((c : ℕ) → c < 4096 → square out c ≡ square mid (bit_exchanged c)) → (c : ℕ) → c < 4096 → Marked out c ↔ Marked rows (exchange 6 c)
-unfolding bit_exchanged
-exchange_done rows mid out across each c l =
-    let low : bit_exchanged c < 4096 = omega (arith, exchange_lt 3 (c % 64)) in
-    let same : square out c ≡ square rows (exchange 6 c) = each c l ∙ across (bit_exchanged c) low ∙ ap (square rows) (both_exchanged c) in
-    (λ m. (exchange_lt 6 c, sym same ∙ m.1), λ m. (l, same ∙ m.1))
+    same : square out c ≡ square rows (exchange 6 c)
+    same =
+        let low : exchange 3 (c % 64) < 64 = exchange_lt 3 (c % 64) in
+        let row : (exchange 3 (c / 64) * 64 + exchange 3 (c % 64)) / 64 ≡ exchange 3 (c / 64) = omega arith in
+        let bit : (exchange 3 (c / 64) * 64 + exchange 3 (c % 64)) % 64 ≡ exchange 3 (c % 64) = omega arith in
+        rw (exchange_split c, row, bit) (each (c / 64) (c % 64) (omega arith) (omega arith))

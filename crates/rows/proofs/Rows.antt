@@ -1,8 +1,7 @@
 -- A pass over the 64 rows does to the marks of the 4,096 codes what it does to each row.
 -- A code's six lower literals are those of its bit, and leaving one out or adding one stays in the row (`raise_row_lem`, `lower_row_lem`), so closing
 -- over them closes each row; its six higher literals are those of its row, and the bit stays (`raise_across`, `lower_across`).
--- The loops: the rows before i are passed and the others as they came (`Through`), and one turn passes the next row.
-use borrow.Author.Count.{below_more}
+-- So what each row has at its bits the codes have (`all_codes`), and each pass is one lemma more, over the rows that it gives.
 use mathlib.Core.Path.{◌≡◌, refl, sym, ap, ◌∙◌}
 use mathlib.Core.Logic.{◌≢◌}
 use mathlib.Core.List.{List}
@@ -11,9 +10,8 @@ use native.Mathlib.Nat.{mod-lt, zero-min, min-zero, lt_of_le_of_lt}
 use native.Mathlib.Decide.{ℕ_discrete}
 use native.Mathlib.Omega.{arith}
 use lib.Bits.{bit_and, bit_or, bit_xor, differ, and_le_l}
-use lib.ListN.{length, get_or, set, length-set}
+use lib.ListN.{get_or}
 use lib.Pow.{pow_mono, pow_pos, pow-add, shr-shr}
-use lib.Seq.{get_or-set_same, get_or-set_other, set-get_or}
 use Rattle.fuzzy.specs.Phrase.{has}
 use Rattle.fuzzy.proofs.Literals.{has_lt, has_zero, has_next, has_or, has_and, has_xor, has_none, has_le, has_itself, has_one, has_mod}
 use Rattle.fuzzy.proofs.Literals.{same_literals}
@@ -64,7 +62,7 @@ module _ (f : ℕ → ℕ) (g : ℕ → ℕ → ℕ) (same : (c : ℕ) → f c �
 
 module _ (m : List ℕ) where
   -- the marks of a code are those of its row at its bit
-  square_row : (c : ℕ) → square m c ≡ has (get_or m (c / 64) 0) (c % 64)
+  pub square_row : (c : ℕ) → square m c ≡ has (get_or m (c / 64) 0) (c % 64)
   unfolding square
   square_row c = refl
 
@@ -111,56 +109,32 @@ module _ (m : List ℕ) where
       let bit : (c + 64 * 2 ^ k) % 64 ≡ c % 64 = omega arith in
       rw (has_row c k, pow-add 2 6 k) (ap (min (1 - has (c / 64) k)) (rw (row, bit) at (square_row (c + 64 * 2 ^ k))))
 
--- a pass on the marks of one row, by the row's number
-abbrev pub Pass : Type 0
-Pass = ℕ → (ℕ → ℕ) → ℕ → ℕ
+-- what each row has at its bits the codes have
+pub all_codes : (r : List ℕ) (v : ℕ → ℕ → ℕ) → ((i : ℕ) → i < 64 → (b : ℕ) → b < 64 → has (get_or r i 0) b ≡ v i b)
+    → (c : ℕ) → c < 4096 → square r c ≡ v (c / 64) (c % 64)
+all_codes r v h c l = square_row r c ∙ h (c / 64) (omega arith) (c % 64) (mod-lt c (omega arith))
 
--- the rows of m before i are passed, the others as they came
-abbrev pub Through : Pass → List ℕ → List ℕ → ℕ → Type 0
-Through pass m out i =
-    (i ≤ 64) × (length out ≡ 64) × ((r : ℕ) → r < i → (b : ℕ) → b < 64 → has (get_or out r 0) b ≡ pass r (has (get_or m r 0)) b)
-    × ((r : ℕ) → i ≤ r → get_or out r 0 ≡ get_or m r 0)
+module _ (m r : List ℕ) where
+  -- rows that are each closed upwards
+  pub up_all : ((i : ℕ) → i < 64 → (b : ℕ) → b < 64 → has (get_or r i 0) b ≡ closed_up 6 (has (get_or m i 0)) b)
+      → (c : ℕ) → c < 4096 → square r c ≡ closed_up 6 (square m) c
+  up_all h c l = all_codes r (λ i. closed_up 6 (has (get_or m i 0))) h c l ∙ sym (up_row_lem m 6 (omega arith) c)
 
-module _ (pass : Pass) (m : List ℕ) where
-  -- at first none is passed
-  pub through_start : length m ≡ 64 → Through pass m m 0
-  through_start e = (omega arith, e, λ r l. absurd (omega arith), λ r l. refl)
+  -- rows that are each closed downwards
+  pub down_all : ((i : ℕ) → i < 64 → (b : ℕ) → b < 64 → has (get_or r i 0) b ≡ closed_down 6 (has (get_or m i 0)) b)
+      → (c : ℕ) → c < 4096 → square r c ≡ closed_down 6 (square m) c
+  down_all h c l = all_codes r (λ i. closed_down 6 (has (get_or m i 0))) h c l ∙ sym (down_row_lem m 6 (omega arith) c)
 
-  module _ (out : List ℕ) (i : ℕ) (t : Through pass m out i) where
-    -- a turn that stores the next row passed
-    pub through_next : (x : ℕ) → i < 64 → ((b : ℕ) → b < 64 → has x b ≡ pass i (has (get_or out i 0)) b) → Through pass m (set out i x) (i + 1)
-    through_next x l h = (
-      omega arith,
-      length-set out i x ∙ t.1,
-      below_more (λ (r : ℕ). (b : ℕ) → b < 64 → has (get_or (set out i x) r 0) b ≡ pass r (has (get_or m r 0)) b) i
-          (λ r lr. rw (get_or-set_other out i r x 0 (λ e. absurd (omega arith))) (t.2 r lr))
-          (rw (get_or-set_same out i x 0 (omega arith), ← (t.3 i (omega arith))) h),
-      λ r lr. get_or-set_other out i r x 0 (λ e. absurd (omega arith)) ∙ t.3 r (omega arith),
-    )
+  -- rows that are each raised
+  pub above_all : ((i : ℕ) → i < 64 → (b : ℕ) → b < 64 → has (get_or r i 0) b ≡ raised 6 (has (get_or m i 0)) b)
+      → (c : ℕ) → c < 4096 → square r c ≡ raised 6 (square m) c
+  above_all h c l = all_codes r (λ i. raised 6 (has (get_or m i 0))) h c l ∙ sym (above_row_lem m 6 (omega arith) c)
 
-    -- a turn that leaves a row which passing does not change
-    pub through_keep : i < 64 → ((b : ℕ) → b < 64 → has (get_or out i 0) b ≡ pass i (has (get_or out i 0)) b) → Through pass m out (i + 1)
-    through_keep l h = rw (set-get_or out i 0) at (through_next (get_or out i 0) l h)
-
-    -- in the end the marks of every code are passed in its row
-    pub through_end : 64 ≤ i → (c : ℕ) → c < 4096 → square out c ≡ pass (c / 64) (has (get_or m (c / 64) 0)) (c % 64)
-    through_end h c l = square_row out c ∙ t.2 (c / 64) (omega arith) (c % 64) (mod-lt c (omega arith))
-
--- a row without another
-abbrev pub without : List ℕ → Pass
-without other r f b = min (f b) (1 - has (get_or other r 0) b)
-
--- a row joined with another, bit by bit
-abbrev pub joins : (ℕ → ℕ → ℕ) → List ℕ → Pass
-joins op other r f b = op (f b) (has (get_or other r 0) b)
-
--- a row with that of `from` which lacks literal k, where it has it
-abbrev pub raises : ℕ → List ℕ → Pass
-raises k from r f b = max (f b) (min (has r k) (has (get_or from (r - 2 ^ k) 0) b))
-
--- a row with that of `from` which has literal k, where it lacks it
-abbrev pub lowers : ℕ → List ℕ → Pass
-lowers k from r f b = max (f b) (min (1 - has r k) (has (get_or from (r + 2 ^ k) 0) b))
+  -- rows that are each without another's
+  pub without_all : (o : List ℕ) → ((i : ℕ) → i < 64 → (b : ℕ) → b < 64 → has (get_or r i 0) b ≡ min (has (get_or m i 0) b) (1 - has (get_or o i 0) b))
+      → (c : ℕ) → c < 4096 → square r c ≡ min (square m c) (1 - square o c)
+  without_all o h c l =
+      rw (square_row m c, square_row o c) (all_codes r (λ i b. min (has (get_or m i 0) b) (1 - has (get_or o i 0) b)) h c l)
 
 -- taking out what two rows share leaves what only the first has
 pub out_shared : (x y b : ℕ) → has (bit_xor x (bit_and x y)) b ≡ min (has x b) (1 - has y b)
@@ -214,56 +188,35 @@ raise_fits k i step here is d = omega (arith, has_le i k (meets_has i k here (rw
 pub lower_fits : (k i step : ℕ) → k < 6 → i < 64 → step ≡ 2 ^ k → bit_and i step ≡ 0 → i + step < 64
 lower_fits k i step few here is z = omega (arith, room 6 k i few here (misses_has i k (rw is at z)))
 
-module _ (k : ℕ) (m from out : List ℕ) (i step : ℕ) (here : i < 64) (is : step ≡ 2 ^ k) where
-  -- a turn of raising at a row that has the literal
-  pub raise_there : Through (raises k from) m out i → bit_and i step ≢ 0
-      → Through (raises k from) m (set out i (bit_or (get_or out i 0) (get_or from (i - step) 0))) (i + 1)
-  raise_there t d =
-      let e = meets_has i k here (rw is at d) in
-      rw is (through_next (raises k from) m out i t _ here (λ b l. or_let (has i k) (get_or out i 0) (get_or from (i - 2 ^ k) 0) b e))
+module _ (k step : ℕ) (is : step ≡ 2 ^ k) (m from r : List ℕ) where
+  -- rows that have the row without the literal too, where they have it, are raised by it
+  pub raise_all : ((i : ℕ) → i < 64 → bit_and i step ≡ 0 → get_or r i 0 ≡ get_or m i 0)
+      → ((i : ℕ) → i < 64 → bit_and i step ≢ 0 → get_or r i 0 ≡ bit_or (get_or m i 0) (get_or from (i - step) 0))
+      → (c : ℕ) → c < 4096 → square r c ≡ max (square m c) (raise (6 + k) (square from) c)
+  raise_all absent there c l =
+      rw (square_row m c, raise_across from k c) (all_codes r pass (λ i li b lb. at i li b (ℕ_discrete (bit_and i step) 0)) c l)
+    where
+      pass : ℕ → ℕ → ℕ
+      pass i b = max (has (get_or m i 0) b) (min (has i k) (has (get_or from (i - 2 ^ k) 0) b))
 
-  -- a turn at one that lacks it
-  pub raise_absent : Through (raises k from) m out i → bit_and i step ≡ 0 → Through (raises k from) m out (i + 1)
-  raise_absent t z = through_keep (raises k from) m out i t here (λ b l. or_kept (has i k) _ _ (misses_has i k (rw is at z)))
+      at : (i : ℕ) → i < 64 → (b : ℕ) → Dec (bit_and i step ≡ 0) → has (get_or r i 0) b ≡ pass i b
+      at i li b (yes z) = rw (absent i li z) (or_kept (has i k) _ _ (misses_has i k (rw is at z)))
+      at i li b (no d) = rw (there i li d, is) (or_let (has i k) (get_or m i 0) (get_or from (i - 2 ^ k) 0) b (meets_has i k li (rw is at d)))
 
-  -- a turn of lowering at a row that lacks the literal
-  pub lower_absent : Through (lowers k from) m out i → bit_and i step ≡ 0
-      → Through (lowers k from) m (set out i (bit_or (get_or out i 0) (get_or from (i + step) 0))) (i + 1)
-  lower_absent t z =
-      let e = misses_has i k (rw is at z) in
-      rw is (through_next (lowers k from) m out i t _ here (λ b l. or_let (1 - has i k) (get_or out i 0) (get_or from (i + 2 ^ k) 0) b (omega arith)))
+  -- rows that have the row with the literal too, where they lack it, are lowered by it
+  pub lower_all : ((i : ℕ) → i < 64 → bit_and i step ≡ 0 → get_or r i 0 ≡ bit_or (get_or m i 0) (get_or from (i + step) 0))
+      → ((i : ℕ) → i < 64 → bit_and i step ≢ 0 → get_or r i 0 ≡ get_or m i 0)
+      → (c : ℕ) → c < 4096 → square r c ≡ max (square m c) (lower (6 + k) (square from) c)
+  lower_all absent there c l =
+      rw (square_row m c, lower_across from k c) (all_codes r pass (λ i li b lb. at i li b (ℕ_discrete (bit_and i step) 0)) c l)
+    where
+      pass : ℕ → ℕ → ℕ
+      pass i b = max (has (get_or m i 0) b) (min (1 - has i k) (has (get_or from (i + 2 ^ k) 0) b))
 
-  -- a turn at one that has it
-  pub lower_there : Through (lowers k from) m out i → bit_and i step ≢ 0 → Through (lowers k from) m out (i + 1)
-  lower_there t d =
-      let e = meets_has i k here (rw is at d) in
-      through_keep (lowers k from) m out i t here (λ b l. or_kept (1 - has i k) _ _ (omega arith))
-
-module _ (m out : List ℕ) (i : ℕ) (all : 64 ≤ i) (c : ℕ) (l : c < 4096) where
-  -- all rows closed upwards
-  pub up_end : Through (λ r. closed_up 6) m out i → square out c ≡ closed_up 6 (square m) c
-  up_end t = through_end (λ r. closed_up 6) m out i t all c l ∙ sym (up_row_lem m 6 (omega arith) c)
-
-  -- all rows closed downwards
-  pub down_end : Through (λ r. closed_down 6) m out i → square out c ≡ closed_down 6 (square m) c
-  down_end t = through_end (λ r. closed_down 6) m out i t all c l ∙ sym (down_row_lem m 6 (omega arith) c)
-
-  -- all rows raised
-  pub above_end : Through (λ r. raised 6) m out i → square out c ≡ raised 6 (square m) c
-  above_end t = through_end (λ r. raised 6) m out i t all c l ∙ sym (above_row_lem m 6 (omega arith) c)
-
-  -- all rows without those of another square
-  pub without_end : (other : List ℕ) → Through (without other) m out i → square out c ≡ min (square m c) (1 - square other c)
-  without_end other t = rw (square_row m c, square_row other c) (through_end (without other) m out i t all c l)
-
-  -- all rows joined with those of another square
-  pub joins_end : (op : ℕ → ℕ → ℕ) (other : List ℕ) → Through (joins op other) m out i → square out c ≡ op (square m c) (square other c)
-  joins_end op other t = rw (square_row m c, square_row other c) (through_end (joins op other) m out i t all c l)
-
-  -- all rows with those of another square one literal higher
-  pub raise_end : (k : ℕ) (from : List ℕ) → Through (raises k from) m out i → square out c ≡ max (square m c) (raise (6 + k) (square from) c)
-  raise_end k from t = rw (square_row m c, raise_across from k c) (through_end (raises k from) m out i t all c l)
-
-  -- all rows with those of another square one literal lower
-  pub lower_end : (k : ℕ) (from : List ℕ) → Through (lowers k from) m out i → square out c ≡ max (square m c) (lower (6 + k) (square from) c)
-  lower_end k from t = rw (square_row m c, lower_across from k c) (through_end (lowers k from) m out i t all c l)
+      at : (i : ℕ) → i < 64 → (b : ℕ) → Dec (bit_and i step ≡ 0) → has (get_or r i 0) b ≡ pass i b
+      at i li b (yes z) =
+          let e = misses_has i k (rw is at z) in
+          rw (absent i li z, is) (or_let (1 - has i k) (get_or m i 0) (get_or from (i + 2 ^ k) 0) b (omega arith))
+      at i li b (no d) =
+          let e = meets_has i k li (rw is at d) in
+          rw (there i li d) (or_kept (1 - has i k) _ _ (omega arith))

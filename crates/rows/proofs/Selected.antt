@@ -77,16 +77,17 @@ marks_more m i =
     rw (e, select_split (is_marked m) (i * 64) 64 0, f, row_marks_lem m i)
 
 -- their number
-pub count_more : (m : List ℕ) (i total more : ℕ) → total ≡ length (marks_of m (i * 64)) → more ≡ length (row_marks (get_or m i 0) (i * 64))
-    → total + more ≡ length (marks_of m ((i + 1) * 64))
-count_more m i total more e f =
-    ap₂ ◌+◌ e f ∙ sym (length-append (marks_of m (i * 64)) (row_marks (get_or m i 0) (i * 64))) ∙ ap length (sym (marks_more m i))
+pub count_more : (m : List ℕ) (i total : ℕ) → get_or m i 0 < 2 ^ 64 → total ≡ length (marks_of m (i * 64))
+    → total + ones (get_or m i 0) ≡ length (marks_of m ((i + 1) * 64))
+count_more m i total l e =
+    ap₂ ◌+◌ e (row_ones (get_or m i 0) (i * 64) l) ∙ sym (length-append (marks_of m (i * 64)) (row_marks (get_or m i 0) (i * 64)))
+    ∙ ap length (sym (marks_more m i))
 
 -- which is at most that of the codes
 pub count_le : (m : List ℕ) (n : ℕ) → length (marks_of m n) ≤ n
 count_le m n = select_length (is_marked m) n 0
 
--- none are marked before the first row
+-- and none before the first row
 pub count_none : (m : List ℕ) → 0 ≡ length (marks_of m 0)
 unfolding select
 count_none m = refl

@@ -3,15 +3,14 @@ use mathlib.Core.Path.{◌≡◌, refl}
 use mathlib.Core.Bool.{Bool, true, false, not, ◌||◌, false≢true}
 use mathlib.Core.Logic.{◌⊎◌, inl, inr, ◌↔◌, ⊎_elim}
 use mathlib.Core.List.{List, [], ◌∷◌, Memᴰ}
-use Prim.Native.Nat.{ℕ, zero, suc, ◌+◌, ◌*◌, ◌/◌, ◌%◌, ◌<◌, min}
+use Prim.Native.Nat.{ℕ, ◌+◌, ◌-◌, ◌*◌, ◌/◌, ◌%◌, ◌<◌, min}
 use native.Mathlib.Omega.{arith}
-use lib.Bits.{bit_and, bit_xor, differ}
 use lib.Dec.{eqb}
 use lib.ListN.{get_or}
 use Rattle.fuzzy.specs.Phrase.{digits, has, Simple}
 use Rattle.fuzzy.specs.Cover.{is_one_of}
 use Rattle.fuzzy.proofs.Fast.{Full}
-use Rattle.fuzzy.proofs.Literals.{has_lt, has_and, has_xor}
+use Rattle.fuzzy.proofs.Literals.{has_lt}
 use Rattle.fuzzy.proofs.Search.{one_of, eqb_eq, eq-eqb}
 use Rattle.rows.proofs.Every.{every, every_at, agree, agree_says}
 use Rattle.rows.specs.Pass.{Outside}
@@ -77,33 +76,21 @@ table_has i li k lk =
       λ h. eqb_eq (has (get_or table i 0) k) 1 (same.1 ((allowed_says (i * 64 + k)).1 h)),
     )
 
--- row j of what is left: the simple or full codes that m does not mark
+-- row i of what is left: some row of the simple or full codes, without m's
 abbrev pub left : List ℕ → ℕ → ℕ → Type 0
-left m j x = (k : ℕ) → k < 64 → (has x k ≡ 1) ↔ ((Simple 6 (j * 64 + k) ⊎ Full 6 (j * 64 + k)) × (has (get_or m j 0) k ≡ 0))
-
--- taking the marked codes out of a row of the simple or full codes
-pub left_row : (m : List ℕ) (j row x : ℕ) → x ≡ get_or m j 0 → ((k : ℕ) → k < 64 → (has row k ≡ 1) ↔ (Simple 6 (j * 64 + k) ⊎ Full 6 (j * 64 + k)))
-    → left m j (bit_xor row (bit_and row x))
-left_row m j row x e h k l =
-    rw (has_xor row (bit_and row x) k, has_and row x k, e) (both (has row k) (has (get_or m j 0) k) (has_lt row k) (has_lt (get_or m j 0) k) (h k l))
-  where
-    both : (a b : ℕ) → a < 2 → b < 2 → (a ≡ 1) ↔ (Simple 6 (j * 64 + k) ⊎ Full 6 (j * 64 + k))
-        → (differ a (min a b) ≡ 1) ↔ ((Simple 6 (j * 64 + k) ⊎ Full 6 (j * 64 + k)) × (b ≡ 0))
-    both zero b la lb i = (λ f. absurd (omega arith), λ f. absurd (omega (arith, i.1 f.0)))
-    both (suc zero) zero la lb i = (λ f. (i.0 refl, refl), λ f. refl)
-    both (suc zero) (suc zero) la lb i = (λ f. absurd (omega arith), λ f. absurd (omega (arith, f.1)))
-    both (suc zero) (suc (suc b)) la lb i = absurd (omega arith)
-    both (suc (suc a)) b la lb i = absurd (omega arith)
+left m i x = (row : ℕ) × ((k : ℕ) → k < 64 → (has row k ≡ 1) ↔ (Simple 6 (i * 64 + k) ⊎ Full 6 (i * 64 + k)))
+    × ((k : ℕ) → k < 64 → has x k ≡ min (has row k) (1 - has (get_or m i 0) k))
 
 -- rows that have what is left, each, mark what is outside
-pub outside_rows : (m r : List ℕ) → ((j : ℕ) → j < 64 → left m j (get_or r j 0)) → Outside m r
+pub outside_rows : (m r : List ℕ) → ((i : ℕ) → i < 64 → left m i (get_or r i 0)) → Outside m r
 unfolding square
 outside_rows m r h c l =
+    let (row, right, rest) = h (c / 64) (omega arith) in
     let e : c / 64 * 64 + c % 64 ≡ c = omega arith in
-    let i : (has (get_or r (c / 64) 0) (c % 64) ≡ 1) ↔ ((Simple 6 c ⊎ Full 6 c) × (has (get_or m (c / 64) 0) (c % 64) ≡ 0)) =
-    rw e at (h (c / 64) (omega arith) (c % 64) (omega arith)) in (
-      λ x. let y = i.0 x.1 in (y.0, λ z. omega (arith, y.1, z.1)),
-      λ x. (l, i.1 (x.0, zero_of (has (get_or m (c / 64) 0) (c % 64)) (has_lt (get_or m (c / 64) 0) (c % 64)) (λ z. x.1 (l, z)))),
+    let i : (has row (c % 64) ≡ 1) ↔ (Simple 6 c ⊎ Full 6 c) = rw e at (right (c % 64) (omega arith)) in
+    let v = rest (c % 64) (omega arith) in (
+      λ x. (i.0 (omega (arith, v, x.1, has_lt row (c % 64))), λ z. omega (arith, v, x.1, z.1)),
+      λ x. (l, omega (arith, v, i.1 x.0, zero_of (has (get_or m (c / 64) 0) (c % 64)) (has_lt (get_or m (c / 64) 0) (c % 64)) (λ z. x.1 (l, z)))),
     )
   where
     zero_of : (b : ℕ) → b < 2 → ¬ (b ≡ 1) → b ≡ 0

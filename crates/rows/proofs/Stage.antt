@@ -137,6 +137,10 @@ lacks_stays c k b l o = more_lt 12 c k b l (omega arith)
 lacks_same : (p q : ℕ) → p < 4096 → q < 4096 → ((k : ℕ) → k < 12 → lacks p k ≡ lacks q k) → p ≡ q
 lacks_same p q lp lq h = same_literals 6 p q lp lq (λ k l. omega (arith, h k l, has_lt p k, has_lt q k))
 
+-- the literal after literal 6 + k
+step : (k : ℕ) → 6 + (k + 1) ≡ suc (6 + k)
+step k = omega arith
+
 module _ (f : ℕ → ℕ) where
   up_next : (k c : ℕ) → closed_up (suc k) f c ≡ max (closed_up k f c) (min (has c k) (closed_up k f (less c k)))
   unfolding closed_up raise
@@ -150,27 +154,27 @@ module _ (f : ℕ → ℕ) where
   unfolding closed_down lower
   down_next k c = refl
 
-  -- marks that are closed upwards over the literals below k, and raised by literal k, are closed over one more
-  pub up_step : (k : ℕ) {s t : ℕ → ℕ} → ((c : ℕ) → c < 4096 → s c ≡ closed_up k f c) → ((c : ℕ) → c < 4096 → t c ≡ max (s c) (raise k s c))
-      → (c : ℕ) → c < 4096 → t c ≡ closed_up (suc k) f c
+  -- marks that are closed upwards over the literals below 6 + k, and raised by the next, are closed over one more
+  pub up_step : (k : ℕ) {s t : ℕ → ℕ} → ((c : ℕ) → c < 4096 → s c ≡ closed_up (6 + k) f c) → ((c : ℕ) → c < 4096 → t c ≡ max (s c) (raise (6 + k) s c))
+      → (c : ℕ) → c < 4096 → t c ≡ closed_up (6 + (k + 1)) f c
   unfolding raise closed_up
-  up_step k hs ht c b = rw (ht c b, hs c b, hs (less c k) (omega arith))
+  up_step k hs ht c b = rw (step k, ht c b, hs c b, hs (less c (6 + k)) (omega arith))
 
-  -- marks that are closed downwards over the literals below k, and lowered by literal k, are closed over one more
-  pub down_step : (k : ℕ) → k < 12 → {s t : ℕ → ℕ} → ((c : ℕ) → c < 4096 → s c ≡ closed_down k f c)
-      → ((c : ℕ) → c < 4096 → t c ≡ max (s c) (lower k s c)) → (c : ℕ) → c < 4096 → t c ≡ closed_down (suc k) f c
+  -- marks that are closed downwards over the literals below 6 + k, and lowered by the next, are closed over one more
+  pub down_step : (k : ℕ) → k < 6 → {s t : ℕ → ℕ} → ((c : ℕ) → c < 4096 → s c ≡ closed_down (6 + k) f c)
+      → ((c : ℕ) → c < 4096 → t c ≡ max (s c) (lower (6 + k) s c)) → (c : ℕ) → c < 4096 → t c ≡ closed_down (6 + (k + 1)) f c
   unfolding lower
-  down_step k l {s} {t} hs ht c b = at (ℕ_discrete (lacks c k) 1)
+  down_step k l {s} {t} hs ht c b = rw (step k) (at (ℕ_discrete (lacks c (6 + k)) 1))
     where
-      at : Dec (lacks c k ≡ 1) → t c ≡ closed_down (suc k) f c
-      at (yes o) = rw (ht c b, down_next k c, hs c b, hs (more c k) (lacks_stays c k b l o))
-      at (no d) = omega (arith, ht c b, down_next k c, hs c b, lacks_lt c k)
+      at : Dec (lacks c (6 + k) ≡ 1) → t c ≡ closed_down (suc (6 + k)) f c
+      at (yes o) = rw (ht c b, down_next (6 + k) c, hs c b, hs (more c (6 + k)) (lacks_stays c (6 + k) b (omega arith) o))
+      at (no d) = omega (arith, ht c b, down_next (6 + k) c, hs c b, lacks_lt c (6 + k))
 
-  -- marks that are f raised by the literals below k, and f raised by literal k, are f raised by one more
-  pub raised_step : (k : ℕ) {s t : ℕ → ℕ} → ((c : ℕ) → c < 4096 → s c ≡ raised k f c) → ((c : ℕ) → c < 4096 → t c ≡ max (s c) (raise k f c))
-      → (c : ℕ) → c < 4096 → t c ≡ raised (suc k) f c
+  -- marks that are f raised by the literals below 6 + k, and f raised by the next, are f raised by one more
+  pub raised_step : (k : ℕ) {s t : ℕ → ℕ} → ((c : ℕ) → c < 4096 → s c ≡ raised (6 + k) f c)
+      → ((c : ℕ) → c < 4096 → t c ≡ max (s c) (raise (6 + k) f c)) → (c : ℕ) → c < 4096 → t c ≡ raised (6 + (k + 1)) f c
   unfolding raised
-  raised_step k hs ht c b = rw (ht c b, hs c b)
+  raised_step k hs ht c b = rw (step k, ht c b, hs c b)
 
   raised_lt : (n c : ℕ) → raised n f c < 2
   unfolding raised raise

@@ -1,5 +1,5 @@
 // Passes on one row: its 64 bits are the codes of three variables.
-ghost use Rattle.std.specs.Prelude.{◌≡◌, ℕ, ◌<◌};
+ghost use Rattle.std.specs.Prelude.{◌≡◌, ℕ, ◌-◌, ◌<◌, min};
 ghost use Rattle.fuzzy.specs.Phrase.{has};
 ghost use Rattle.rows.specs.Stage.{closed_up, closed_down, raised};
 
@@ -50,4 +50,11 @@ pub(crate) fn above(row: u64) -> u64
     let above = above | ((row << 8) & HAS_3);
     let above = above | ((row << 16) & HAS_4);
     above | ((row << 32) & HAS_5)
+}
+
+// What the first row marks and the second does not.
+pub(crate) fn without(row: u64, other: u64) -> u64
+    ensures { (c : ℕ) → c < 64 → has result c ≡ min (has row c) (1 - has other c) }
+{
+    row ^ (row & other)
 }

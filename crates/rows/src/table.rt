@@ -4,6 +4,8 @@ ghost use Rattle.fuzzy.specs.Phrase.{has, Simple};
 ghost use Rattle.fuzzy.proofs.Fast.{Full};
 ghost use Rattle.rows.specs.Pass.{Outside};
 
+use crate::{Marks, bits, made};
+
 // The codes that have no digit 3, or no digit 0.
 const SIMPLE_OR_FULL: [u64; 64] = [
     0x0000_0777_0777_0777,
@@ -72,18 +74,13 @@ const SIMPLE_OR_FULL: [u64; 64] = [
     0xeee0_eee0_eee0_0000,
 ];
 
-// The simple or full codes that are not marked.
-pub(crate) fn outside(rows: [u64; 64]) -> [u64; 64]
-    ensures { Outside rows result }
-{
-    let mut out = rows;
-    let mut i = 0;
-    while i < 64 {
-        let row = simple_or_full(i);
-        out[i] = row ^ (row & out[i]);
-        i += 1;
+impl Marks {
+    // The simple or full codes that are not marked.
+    pub fn outside(&self) -> Marks
+        ensures { Outside self.now.rows result.rows }
+    {
+        made::each(|i| bits::without(simple_or_full(i), self.rows[i]))
     }
-    out
 }
 
 // A row of the simple or full codes.

@@ -16,8 +16,7 @@ use borrow.Author.Tests.{eq-eqb, eqb-true, leb-true, le-leb, lt-leb, ltb-true, l
 use lib.Dec.{eqb, leb, ltb}
 use lib.ListN.{length}
 use Rattle.fuzzy.proofs.Search.{both, both_first, both_second}
-use Rattle.sheets.specs.declared.answer.Answer.{Answer}
-use Rattle.sheets.specs.Answer.{done, unless, first_of}
+use Rattle.sheets.specs.Answer.{Answer, done, unless, first_of}
 use Rattle.sheets.specs.Refusal.{first_at_least, variables, phrases, codes, scaled, counted, graded, phrased}
 use Rattle.sheets.specs.Listing.{fitted, of_sheet, of_pair}
 use Rattle.sheets.proofs.Refused.{stands, passes, holds_of, all_pass, all_below}

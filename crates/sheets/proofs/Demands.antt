@@ -23,11 +23,7 @@ use Rattle.fuzzy.proofs.List as ListLaws
 use Rattle.fuzzy.proofs.Cover as CoverLaws
 use Rattle.fuzzy.proofs.Lattice as Lattice
 use Rattle.fuzzy.proofs.Constant as Constant
-use Rattle.sheets.specs.declared.answer.Answer.{Answer}
-use Rattle.sheets.specs.declared.Valued.{Valued}
-use Rattle.sheets.specs.declared.Asked.{Asked}
-use Rattle.sheets.specs.declared.Listed.{Listed}
-use Rattle.sheets.specs.Answer.{first_of}
+use Rattle.sheets.specs.Answer.{Answer, Valued, Asked, Listed, first_of}
 use Rattle.sheets.specs.Refusal.{variables, phrases, codes, scaled, counted, graded, phrased, value_refusal, question_refusal}
 use Rattle.sheets.specs.Value.{value_answer, ValuePromise}
 use Rattle.sheets.specs.Implicant.{implicant_answer, ImplicantPromise}

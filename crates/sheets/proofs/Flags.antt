@@ -8,8 +8,9 @@ use native.Mathlib.Decide.{ℕ_discrete, dec_le}
 use borrow.Author.Tests.{eq-eqb, le-leb}
 use native.Mathlib.Omega.{arith}
 use mir.Val.{bool_byte}
-use lib.ListN.{length, get_or, set, drop, length-set, length-append, length-drop, get_or-append}
+use lib.ListN.{length, get_or, set, take, drop, length-set, length-append, length-drop, get_or-append}
 use lib.Seq.{get_or-set_same, get_or-set_other, get_or-append-add, get_or-drop, ext_get_or}
+use lib.Seq.{take-append_seam}
 use Rattle.fuzzy.specs.Function.{Fn}
 use Rattle.fuzzy.specs.Primes.{primes}
 use Rattle.fuzzy.specs.Cover.{cover, flags}
@@ -18,15 +19,11 @@ use Rattle.fuzzy.proofs.Cover.{flags_length}
 use Rattle.rows.specs.Square.{square}
 use Rattle.rows.specs.Pass.{Held}
 use Rattle.rows.specs.Read.{marks_of, written, read_into}
-use Rattle.sheets.specs.declared.Listed.{Listed}
+use Rattle.sheets.specs.Answer.{Listed}
 use Rattle.sheets.specs.Listing.{listed_answer, afterwards}
 use Rattle.sheets.specs.Walk.{Flagged, Reads}
 use Rattle.sheets.proofs.Published.{done_fits}
 use Rattle.sheets.proofs.Walked.{flags_square, prime_lt}
-
--- no flag is written yet
-pub flagged_none : (kept codes old : List ℕ) → Flagged kept codes 0 old old
-flagged_none kept codes old = (refl, λ i l lc. absurd (omega arith), λ i l. refl)
 
 -- a code's flag is its mark
 held_square : (kept : List ℕ) (c : ℕ) (b : Bool) → c < 4096 → Held kept c b → bool_byte b ≡ square kept c
@@ -60,11 +57,14 @@ written_length new old l =
     let e = length-append new (drop (length new) old) in
     let d = length-drop (length new) old in omega (arith, e, d)
 
--- what was read is the primes
-pub reads_primes : (n : ℕ) (f : Fn) (ps cs : List ℕ) → ps ≡ primes n f → length ps ≤ length cs → Reads n f (read_into ps cs) (length ps)
+-- the front of what was read is the list
+pub front_read : (ps cs : List ℕ) (count : ℕ) → count ≡ length ps → length ps ≤ length cs → take count (read_into ps cs) ≡ ps
 unfolding read_into written
-reads_primes n f ps cs e l =
-    (ap length (sym e), λ i li. rw (le-leb (length ps) (length cs) l, ← e) (get_or-append ps (drop (length ps) cs) 0 i li))
+front_read ps cs count e l = rw (e, le-leb (length ps) (length cs) l) (take-append_seam ps (drop (length ps) cs))
+
+-- a list that is the primes reads them
+pub reads : (n : ℕ) (f : Fn) (codes : List ℕ) → codes ≡ primes n f → Reads n f codes (length codes)
+reads n f codes e = (ap length (sym e), λ i l. ap (λ (xs : List ℕ). get_or xs i 0) e)
 
 module _ (ps cs fs : List ℕ) (room : ℕ) (short : room ≡ min (length cs) (length fs)) (r : Listed) (e : r ≡ listed_answer [] ps room)
     (done : r.answer.number ≡ 0) where
@@ -84,33 +84,34 @@ module _ (ps cs fs : List ℕ) (room : ℕ) (short : room ≡ min (length cs) (l
       rw is (le_trans (rw short at l) (min-le_right (length cs) (length fs)))
 
 -- the flags that were written are those of the walk
-pub flags_done : (n : ℕ) (f : Fn) (kept codes fs fs' : List ℕ) (r : Listed) → n ≤ 6 → marks_of kept 4096 ≡ cover n f → Reads n f codes r.count
-    → r.count ≤ length fs → r.answer.number ≡ 0 → Flagged kept codes r.count fs fs' → fs' ≡ afterwards r (flags n f) fs
+pub flags_done : (n : ℕ) (f : Fn) (kept codes fs fs' : List ℕ) (r : Listed) → n ≤ 6 → marks_of kept 4096 ≡ cover n f → codes ≡ primes n f
+    → length codes ≤ length fs → r.answer.number ≡ 0 → Flagged kept codes (length codes) fs fs' → fs' ≡ afterwards r (flags n f) fs
 unfolding afterwards written
-flags_done n f kept codes fs fs' r few is (counted, at) fits done (same, before, after) =
-    rw (eq-eqb r.answer.number 0 done) (ext_get_or 0 fs' new (same ∙ sym long) (λ i l. entry i (dec_le r.count i)))
+flags_done n f kept codes fs fs' r few is listed fits done (same, before, after) =
+    rw (eq-eqb r.answer.number 0 done) (ext_get_or 0 fs' new (same ∙ sym long) (λ i l. entry i (dec_le (length codes) i)))
   where
     new : List ℕ
     new = flags n f ++ drop (length (flags n f)) fs
 
-    many : length (flags n f) ≡ r.count
-    many = flags_length n f ∙ counted
+    many : length (flags n f) ≡ length codes
+    many = flags_length n f ∙ ap length (sym listed)
 
     long : length new ≡ length fs
     long = let l : length (flags n f) ≤ length fs = rw many fits in written_length (flags n f) fs l
 
-    below : (i : ℕ) → i < r.count → get_or fs' i 0 ≡ get_or new i 0
+    below : (i : ℕ) → i < length codes → get_or fs' i 0 ≡ get_or new i 0
     below i l =
-        let lp : i < length (primes n f) = rw counted l in
-        let six : get_or codes i 0 < 4096 = rw (at i l) (lt_of_lt_of_le (prime_lt n f i lp) (pow-le-pow_right {n = 4} (omega arith) {j = 6} few)) in
-        before i l six ∙ ap (square kept) (at i l) ∙ sym (flags_square n f kept is few i lp)
+        let lp : i < length (primes n f) = rw listed at l in
+        let at : get_or codes i 0 ≡ get_or (primes n f) i 0 = rw listed in
+        let six : get_or codes i 0 < 4096 = rw at (lt_of_lt_of_le (prime_lt n f i lp) (pow-le-pow_right {n = 4} (omega arith) {j = 6} few)) in
+        before i l six ∙ ap (square kept) at ∙ sym (flags_square n f kept is few i lp)
         ∙ sym (get_or-append (flags n f) (drop (length (flags n f)) fs) 0 i (rw many l))
 
-    beyond : (j : ℕ) → get_or fs' (r.count + j) 0 ≡ get_or new (r.count + j) 0
+    beyond : (j : ℕ) → get_or fs' (length codes + j) 0 ≡ get_or new (length codes + j) 0
     beyond j =
-        after (r.count + j) (omega arith)
+        after (length codes + j) (omega arith)
         ∙ rw (← many) (sym (get_or-append-add (flags n f) (drop (length (flags n f)) fs) j 0 ∙ get_or-drop (length (flags n f)) fs j 0))
 
-    entry : (i : ℕ) → Dec (r.count ≤ i) → get_or fs' i 0 ≡ get_or new i 0
-    entry i (yes l) = let e : i ≡ r.count + (i - r.count) = omega arith in rw e (beyond (i - r.count))
+    entry : (i : ℕ) → Dec (length codes ≤ i) → get_or fs' i 0 ≡ get_or new i 0
+    entry i (yes l) = let e : i ≡ length codes + (i - length codes) = omega arith in rw e (beyond (i - length codes))
     entry i (no d) = below i (omega arith)

@@ -1,6 +1,7 @@
 -- What a list call gave, once it is done: the list that it promises, at the front of the lent buffer.
 --   Begins r new old after   r counts the entries of new, the buffer begins with them, and the rest is as it came
 --   ListGave n F ps fs       a call of `list` with the sheet F was done and gave the list ps with the flags fs
+--   PairGave made n A B ps   a call that makes a list of these two sheets was done and gave the list ps
 --   JoinGave n A B ps, MeetGave n A B ps, ComplementGave n A ps
 --                            a call of `join`, `meet`, `complement` with these sheets was done and gave the list ps
 --   Gave n ps                one of the four calls gave the list ps
@@ -15,10 +16,8 @@ use Rattle.fuzzy.specs.Primes.{listed, joined, met, complemented}
 use Rattle.fuzzy.specs.Cover.{flags}
 use Rattle.fuzzy.proofs.Cover.{flags_length}
 use Rattle.rows.specs.Read.{written}
-use Rattle.sheets.specs.declared.answer.Answer.{Answer}
-use Rattle.sheets.specs.declared.Listed.{Listed}
-use Rattle.sheets.specs.Answer.{first_of}
-use Rattle.sheets.specs.Listing.{fitted, of_sheet, of_pair, listed_answer, afterwards, ListPromise, JoinPromise, MeetPromise, ComplementPromise}
+use Rattle.sheets.specs.Answer.{Answer, Listed, first_of}
+use Rattle.sheets.specs.Listing.{fitted, of_sheet, of_pair, listed_answer, afterwards, PairPromise, ListPromise, JoinPromise, MeetPromise, ComplementPromise}
 use Rattle.sheets.proofs.Checks.{Done, Refused}
 
 -- r counts the entries of new, the buffer that held old begins with them, and the rest is as it came
@@ -73,27 +72,24 @@ pub record ListGave (n : ℕ) (F ps fs : List ℕ) : Type 0 where
   pub codes_given : ps ≡ take answer.count codes_after
   pub flags_given : fs ≡ take answer.count flags_after
 
--- a call of `join` with the sheets A and B was done and gave the list ps
-pub record JoinGave (n : ℕ) (A B ps : List ℕ) : Type 0 where
+-- a call that makes a list of the sheets A and B was done and gave the list ps
+pub record PairGave (made : ℕ → List ℕ → List ℕ → List ℕ) (n : ℕ) (A B ps : List ℕ) : Type 0 where
   pub codes_lent : List ℕ
   pub answer : Listed
   pub first_after : List ℕ
   pub second_after : List ℕ
   pub codes_after : List ℕ
-  pub promised : JoinPromise n A B codes_lent answer first_after second_after codes_after
+  pub promised : PairPromise made n A B codes_lent answer first_after second_after codes_after
   pub is_done : Done answer.answer
   pub codes_given : ps ≡ take answer.count codes_after
 
+-- a call of `join` with the sheets A and B was done and gave the list ps
+abbrev pub JoinGave : ℕ → List ℕ → List ℕ → List ℕ → Type 0
+JoinGave = PairGave joined
+
 -- a call of `meet` with the sheets A and B was done and gave the list ps
-pub record MeetGave (n : ℕ) (A B ps : List ℕ) : Type 0 where
-  pub codes_lent : List ℕ
-  pub answer : Listed
-  pub first_after : List ℕ
-  pub second_after : List ℕ
-  pub codes_after : List ℕ
-  pub promised : MeetPromise n A B codes_lent answer first_after second_after codes_after
-  pub is_done : Done answer.answer
-  pub codes_given : ps ≡ take answer.count codes_after
+abbrev pub MeetGave : ℕ → List ℕ → List ℕ → List ℕ → Type 0
+MeetGave = PairGave met
 
 -- a call of `complement` with the sheet A was done and gave the list ps
 pub record ComplementGave (n : ℕ) (A ps : List ℕ) : Type 0 where
@@ -121,17 +117,21 @@ list_gave n F cs fs r F' cs' fs' h d = record {
   flags_given = refl;
 }
 
+-- the same of a call that makes a list of two sheets
+pair_gave : (made : ℕ → List ℕ → List ℕ → List ℕ) (n : ℕ) (A B cs : List ℕ) (r : Listed) (A' B' cs' : List ℕ)
+    → PairPromise made n A B cs r A' B' cs' → Done r.answer → PairGave made n A B (take r.count cs')
+pair_gave made n A B cs r A' B' cs' h d =
+    record { codes_lent = cs; answer = r; first_after = A'; second_after = B'; codes_after = cs'; promised = h; is_done = d; codes_given = refl }
+
 -- the same of `join`
 pub join_gave : (n : ℕ) (A B cs : List ℕ) (r : Listed) (A' B' cs' : List ℕ)
     → JoinPromise n A B cs r A' B' cs' → Done r.answer → JoinGave n A B (take r.count cs')
-join_gave n A B cs r A' B' cs' h d =
-    record { codes_lent = cs; answer = r; first_after = A'; second_after = B'; codes_after = cs'; promised = h; is_done = d; codes_given = refl }
+join_gave = pair_gave joined
 
 -- the same of `meet`
 pub meet_gave : (n : ℕ) (A B cs : List ℕ) (r : Listed) (A' B' cs' : List ℕ)
     → MeetPromise n A B cs r A' B' cs' → Done r.answer → MeetGave n A B (take r.count cs')
-meet_gave n A B cs r A' B' cs' h d =
-    record { codes_lent = cs; answer = r; first_after = A'; second_after = B'; codes_after = cs'; promised = h; is_done = d; codes_given = refl }
+meet_gave = pair_gave met
 
 -- the same of `complement`
 pub complement_gave : (n : ℕ) (A cs : List ℕ) (r : Listed) (A' cs' : List ℕ)
@@ -159,17 +159,19 @@ list_flags {n = n} {F = F} c =
     let one_each = flags_length n (sheet_fn n F) in
     c.flags_given ∙ (begins (of_sheet n F) (listed n F) _ h.answered (flags n (sheet_fn n F)) _ _ one_each h.flags_after c.is_done).1
 
+-- a call that makes a list of two sheets gives what it makes
+pair_list : (made : ℕ → List ℕ → List ℕ → List ℕ) (n : ℕ) (A B ps : List ℕ) → PairGave made n A B ps → ps ≡ made n A B
+pair_list made n A B ps c =
+    let h = c.promised in
+    c.codes_given ∙ (begins (of_pair n A B) (made n A B) _ h.answered (made n A B) _ _ refl h.codes_after c.is_done).1
+
 -- `join` gives the primes of the larger value
 pub join_list : {n : ℕ} {A B ps : List ℕ} → JoinGave n A B ps → ps ≡ joined n A B
-join_list {n = n} {A = A} {B = B} c =
-    let h = c.promised in
-    c.codes_given ∙ (begins (of_pair n A B) (joined n A B) _ h.answered (joined n A B) _ _ refl h.codes_after c.is_done).1
+join_list c = pair_list joined _ _ _ _ c
 
 -- `meet` gives the primes of the smaller value
 pub meet_list : {n : ℕ} {A B ps : List ℕ} → MeetGave n A B ps → ps ≡ met n A B
-meet_list {n = n} {A = A} {B = B} c =
-    let h = c.promised in
-    c.codes_given ∙ (begins (of_pair n A B) (met n A B) _ h.answered (met n A B) _ _ refl h.codes_after c.is_done).1
+meet_list c = pair_list met _ _ _ _ c
 
 -- `complement` gives the primes of the complement value
 pub complement_list : {n : ℕ} {A ps : List ℕ} → ComplementGave n A ps → ps ≡ complemented n A

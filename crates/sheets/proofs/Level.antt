@@ -122,7 +122,7 @@ module _ (c : ℕ) (six : c < 4 ^ 6) where
           (out (has c (suc (2 * j))) (has c (2 * j)) (has_lt c (suc (2 * j))) (has_lt c (2 * j)))
 
   -- the pairs twice are a code of six variables
-  pub pairs_fit : pairs + pairs < 4 ^ 6
+  pairs_fit : pairs + pairs < 4 ^ 6
   pairs_fit = omega (arith, and_le_r (bit_and c (c / 2)) mask)
 
   -- and so is the code without them

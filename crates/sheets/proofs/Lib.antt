@@ -2,7 +2,9 @@
 --   Scan       what one turn of each scan does to what is left of it
 --   Level      the codes of the literals that are at least 1, and at least 2, at a vector
 --   Above      whether a phrase is above a sheet at a vector, read off one code
+--   Told       what the checks answer where their tests hold and where they fail
 --   Refused    the first refusal that applies, and what is known where none does
+--   Found      what the scan for the first entry that is at least a limit says of the check that it serves
 --   Promise    what the calls answer is what they promise
 --   Unique     any two answers that a promise allows are equal
 --   Meaning    what the promises mean in the user's words
@@ -18,7 +20,9 @@
 pub mod Scan
 pub mod Level
 pub mod Above
+pub mod Told
 pub mod Refused
+pub mod Found
 pub mod Promise
 pub mod Unique
 pub mod Meaning

@@ -12,8 +12,7 @@ use Rattle.fuzzy.specs.Vector.{vector, lowest, implicant?}
 use Rattle.fuzzy.proofs.Search.{both_second}
 use Rattle.fuzzy.proofs.Lowest.{lowest_least, lowest_above}
 use Rattle.fuzzy.proofs.Verdict as Verdict
-use Rattle.sheets.specs.declared.Valued.{Valued}
-use Rattle.sheets.specs.declared.Asked.{Asked}
+use Rattle.sheets.specs.Answer.{Valued, Asked}
 use Rattle.sheets.specs.Refusal.{question_refusal}
 use Rattle.sheets.specs.Value.{value_answer, ValuePromise}
 use Rattle.sheets.specs.Implicant.{implicant_answer, ImplicantPromise}

@@ -1,55 +1,46 @@
 -- What a list call answers, and what its buffer holds afterwards, from the checks and from what was read.
 use mathlib.Core.Path.{◌≡◌, refl, sym, ap, ◌∙◌}
-use mathlib.Core.List.{List, [], ◌∷◌, ◌++◌}
+use mathlib.Core.List.{List, [], ◌∷◌}
 use Prim.Native.Nat.{ℕ, ◌≤◌}
-use native.Mathlib.Decide.{ℕ_discrete}
 use native.Mathlib.Omega.{arith}
 use borrow.Author.Tests.{eq-eqb, ne_eqb, le-leb, leb-true}
 use lib.Dec.{leb}
 use lib.ListN.{length}
+use Rattle.std.specs.Prelude.{Result, Ok, Err, IsErrAnd}
 use Rattle.rows.specs.Read.{read_into}
-use Rattle.sheets.specs.declared.answer.Answer.{Answer}
-use Rattle.sheets.specs.declared.Listed.{Listed}
-use Rattle.sheets.specs.Answer.{done, or_else, first_of}
+use Rattle.sheets.specs.declared.refusal.Refusal.{Refusal}
+use Rattle.sheets.specs.Answer.{Answer, Listed, done, first_of}
+use Rattle.sheets.specs.Told.{answer_of, count_told}
 use Rattle.sheets.specs.Listing.{fitted, listed_answer, afterwards}
-use Rattle.sheets.proofs.Refused.{stands, passes, last_link, holds_of}
+use Rattle.sheets.proofs.Told.{refuses}
+use Rattle.sheets.proofs.Refused.{err_early, ok_early, last_link, holds_of}
 
--- the first refusal of two lists of checks
-first_append : (xs ys : List Answer) → first_of (xs ++ ys) ≡ or_else (first_of xs) (first_of ys)
-unfolding first_of
-first_append [] ys = sym (passes done (first_of ys) refl)
-first_append (x ∷ xs) ys = at (first_append xs ys) (ℕ_discrete x.number 0)
-  where
-    at : first_of (xs ++ ys) ≡ or_else (first_of xs) (first_of ys) → Dec (x.number ≡ 0)
-        → or_else x (first_of (xs ++ ys)) ≡ or_else (or_else x (first_of xs)) (first_of ys)
-    at ih (yes e) = passes x (first_of (xs ++ ys)) e ∙ ih ∙ sym (ap (λ (a : Answer). or_else a (first_of ys)) (passes x (first_of xs) e))
-    at ih (no d) =
-        stands x (first_of (xs ++ ys)) d
-        ∙ sym (ap (λ (a : Answer). or_else a (first_of ys)) (stands x (first_of xs) d) ∙ stands x (first_of ys) d)
+-- a result that hands a refusal on tells it, with no entry
+pub told_no_count : (r : Result ℕ Refusal) (e : Refusal) → IsErrAnd r (λ y. y ≡ e) → count_told r ≡ record { answer = answer_of e; count = 0 }
+told_no_count (Ok x) e h = absurd h
+told_no_count (Err x) e h = ap (λ (y : Refusal). count_told (Err y)) h
 
-module _ (checks : List Answer) (ps : List ℕ) (room : ℕ) (a : Answer) (is : a ≡ first_of checks) where
+module _ (checks : List Answer) (ps : List ℕ) (room : ℕ) where
   -- a refusal of the sheets stands, with no entry
-  pub listed_refused : (a.number ≡ 0 → ⊥) → record { answer = a; count = 0 } ≡ listed_answer checks ps room
+  pub listed_err : (r : Result ℕ Refusal) (e : Refusal) → IsErrAnd r (λ y. y ≡ e) → answer_of e ≡ first_of checks → count_told r ≡ listed_answer checks ps room
   unfolding listed_answer
-  listed_refused d =
-      let e : first_of (checks ++ (fitted (length ps) room ∷ [])) ≡ a =
-      first_append checks (fitted (length ps) room ∷ []) ∙ ap (λ (b : Answer). or_else b (first_of (fitted (length ps) room ∷ []))) (sym is)
-      ∙ stands a (first_of (fitted (length ps) room ∷ [])) d in
-      rw (e, ne_eqb a.number 0 d)
+  listed_err r e h is =
+      told_no_count r e h ∙ rw (← (err_early e checks (fitted (length ps) room ∷ []) is), ne_eqb (answer_of e).number 0 (refuses e))
 
   -- where the sheets are in order the room decides
-  pub listed_room : a.number ≡ 0 → (r : Listed) → r ≡ listed_answer [] ps room → r ≡ listed_answer checks ps room
+  pub listed_room : done ≡ first_of checks → (r : Listed) → r ≡ listed_answer [] ps room → r ≡ listed_answer checks ps room
   unfolding listed_answer
-  listed_room z r e =
-      let same : first_of (checks ++ (fitted (length ps) room ∷ [])) ≡ first_of (fitted (length ps) room ∷ []) =
-      first_append checks (fitted (length ps) room ∷ []) ∙ ap (λ (b : Answer). or_else b (first_of (fitted (length ps) room ∷ []))) (sym is)
-      ∙ passes a (first_of (fitted (length ps) room ∷ [])) z in
-      e ∙ rw same
+  listed_room is r e = e ∙ rw (ok_early (first_of (fitted (length ps) room ∷ [])) checks (fitted (length ps) room ∷ []) is refl)
 
 -- a refusal leaves a buffer as it came
 pub afterwards_refused : (r : Listed) (new old : List ℕ) → (r.answer.number ≡ 0 → ⊥) → afterwards r new old ≡ old
 unfolding afterwards
 afterwards_refused r new old d = rw (ne_eqb r.answer.number 0 d)
+
+-- so does a result that hands a refusal on
+pub afterwards_err : (r : Result ℕ Refusal) (e : Refusal) (new old : List ℕ) → IsErrAnd r (λ y. y ≡ e) → old ≡ afterwards (count_told r) new old
+afterwards_err r e new old h =
+    sym (rw (told_no_count r e h) (afterwards_refused (record { answer = answer_of e; count = 0 }) new old (refuses e)))
 
 -- where the call is done and there is room, the list is written
 pub written_done : (r : Listed) (ps old : List ℕ) → r.answer.number ≡ 0 → length ps ≤ length old → read_into ps old ≡ afterwards r ps old

@@ -1,20 +1,24 @@
 -- The first refusal that applies, and what is known where none does.
-use mathlib.Core.Path.{◌≡◌, refl, sym, ◌∙◌}
+use mathlib.Core.Path.{◌≡◌, refl, sym, ap, ◌∙◌}
 use mathlib.Core.Bool.{Bool, true, false, cond, ◌&&◌}
 use mathlib.Core.Logic.{◌⊎◌, inl, inr}
 use mathlib.Core.List.Memᴰ
-use mathlib.Core.List.{List, [], ◌∷◌, Memᴰ}
+use mathlib.Core.List.{List, [], ◌∷◌, ◌++◌, Memᴰ}
 use Prim.Native.Nat.{ℕ, suc, ◌+◌, ◌^◌, ◌≤◌, ◌<◌}
+use native.Mathlib.Decide.{ℕ_discrete}
 use native.Mathlib.Omega.{arith}
 use borrow.Author.Tests.{eq-eqb, ne_eqb, eqb-true, eqb-false, leb-true, leb-false, ltb-true}
 use lib.Dec.{eqb, leb, ltb}
 use lib.ListN.{length}
+use Rattle.std.specs.Prelude.{Result, Ok, Err, IsErrAnd}
 use Rattle.fuzzy.specs.Grade.{Grades}
 use Rattle.fuzzy.proofs.Search.{known, both_second}
-use Rattle.sheets.specs.declared.answer.Answer.{Answer}
-use Rattle.sheets.specs.Answer.{done, unless, or_else, first_of}
+use Rattle.sheets.specs.declared.refusal.Refusal.{Refusal}
+use Rattle.sheets.specs.Answer.{Answer, done, unless, or_else, first_of}
+use Rattle.sheets.specs.Told.{answer_of, told}
 use Rattle.sheets.specs.Listing.{of_sheet, of_pair}
 use Rattle.sheets.specs.Refusal.{first_at_least, variables, phrases, codes, scaled, counted, graded, phrased, value_refusal, question_refusal}
+use Rattle.sheets.proofs.Told.{refuses}
 
 -- a refusal stands
 pub stands : (a b : Answer) → (a.number ≡ 0 → ⊥) → or_else a b ≡ a
@@ -51,6 +55,41 @@ link a b q r rest er ea eq = er ∙ rw (ea, eq)
 pub last_link : (q : Answer) (holds : Bool) (k d : ℕ) → 0 < k → q ≡ unless holds k d → q ≡ first_of (unless holds k d ∷ [])
 unfolding first_of
 last_link q holds k d l e = e ∙ sym (last_check holds k d l)
+
+-- a result that hands a refusal on tells it
+told_err : {A : Type 0} (r : Result A Refusal) (e : Refusal) → IsErrAnd r (λ y. y ≡ e) → told r ≡ answer_of e
+told_err (Ok x) e h = absurd h
+told_err (Err x) e h = ap answer_of h
+
+-- a first check that refuses is what the call answers
+pub err_first : {A : Type 0} (r : Result A Refusal) (e : Refusal) (x : Answer) (rest : List Answer) → IsErrAnd r (λ y. y ≡ e) → answer_of e ≡ x
+    → told r ≡ first_of (x ∷ rest)
+err_first r e x rest h is = told_err r e h ∙ first_stands (answer_of e) x rest is (refuses e)
+
+-- after a first check that passes the others decide
+pub ok_next : (r x : Answer) (rest : List Answer) → done ≡ x → r ≡ first_of rest → r ≡ first_of (x ∷ rest)
+ok_next r x rest e er = first_passes done x r rest e refl er
+
+-- the first refusal of two lists of checks
+first_append : (xs ys : List Answer) → first_of (xs ++ ys) ≡ or_else (first_of xs) (first_of ys)
+unfolding first_of
+first_append [] ys = sym (passes done (first_of ys) refl)
+first_append (x ∷ xs) ys = at (first_append xs ys) (ℕ_discrete x.number 0)
+  where
+    at : first_of (xs ++ ys) ≡ or_else (first_of xs) (first_of ys) → Dec (x.number ≡ 0)
+        → or_else x (first_of (xs ++ ys)) ≡ or_else (or_else x (first_of xs)) (first_of ys)
+    at ih (yes e) = passes x (first_of (xs ++ ys)) e ∙ ih ∙ sym (ap (λ (a : Answer). or_else a (first_of ys)) (passes x (first_of xs) e))
+    at ih (no d) =
+        stands x (first_of (xs ++ ys)) d
+        ∙ sym (ap (λ (a : Answer). or_else a (first_of ys)) (stands x (first_of xs) d) ∙ stands x (first_of ys) d)
+
+-- a refusal of the first checks is one of them all
+pub err_early : (e : Refusal) (xs ys : List Answer) → answer_of e ≡ first_of xs → answer_of e ≡ first_of (xs ++ ys)
+err_early e xs ys is = sym (first_append xs ys ∙ rw (← is) (stands (answer_of e) (first_of ys) (refuses e)))
+
+-- where the first checks pass the others decide
+pub ok_early : (r : Answer) (xs ys : List Answer) → done ≡ first_of xs → r ≡ first_of ys → r ≡ first_of (xs ++ ys)
+ok_early r xs ys is e = e ∙ sym (first_append xs ys ∙ rw (← is) (passes done (first_of ys) refl))
 
 -- where a check does not refuse, its test holds
 pub holds_of : (holds : Bool) (k d : ℕ) → 0 < k → (unless holds k d).number ≡ 0 → holds ≡ true

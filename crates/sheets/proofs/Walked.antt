@@ -6,18 +6,19 @@ use mathlib.Core.Path.{◌≡◌, refl, sym, ap, ◌∙◌}
 use mathlib.Core.Bool.{Bool, true, false, cond, not, ◌&&◌, false≢true}
 use mathlib.Core.Logic.Iff
 use mathlib.Core.Logic.{◌⊎◌, inl, inr, ◌↔◌, ◌≢◌, ⊎_elim}
-use mathlib.Core.List.{List, [], ◌∷◌, ◌++◌, map, reverse, reverse-append, append_assoc}
+use mathlib.Core.List.{List, [], ◌∷◌, ◌++◌, map, reverse, reverse-append, append-nil, append_assoc}
 use mathlib.Core.List.Memᴰ
 use mathlib.Core.List.{Memᴰ}
 use Prim.Native.Nat.{ℕ, zero, suc, ◌+◌, ◌-◌, ◌*◌, ◌/◌, ◌%◌, ◌^◌, ◌≤◌, ◌<◌}
 use native.Mathlib.Nat.{lt_of_lt_of_le, sub-add_cancel, pow-le-pow_right}
 use native.Mathlib.Omega.{arith}
+use borrow.Author.Tests.{ne_eqb}
 use lib.Bits.{bit_and}
 use lib.Count.{ones}
 use lib.Dec.{eqb}
-use lib.ListN.{length, get_or, take}
+use lib.ListN.{length, get_or, take, length-append}
 use lib.Pow.{pow_pos}
-use lib.Seq.{take-length, take-suc}
+use lib.Seq.{take-length, take-suc, get_or-append_seam}
 use Rattle.fuzzy.specs.Phrase.{digits, has, literals, Simple, Subsumes}
 use Rattle.fuzzy.specs.Function.{Fn, sheet_fn, OfSheet}
 use Rattle.fuzzy.specs.Implicant.{Implicant}
@@ -37,10 +38,6 @@ use Rattle.rows.specs.Read.{is_marked, marks_of}
 use Rattle.sheets.specs.Maps.{Maps}
 use Rattle.sheets.specs.Walk.{ahead, Walking, Meets, Round, Rounds, Covers}
 use Rattle.sheets.proofs.Level.{pairs_even}
-
--- where two numbers are not equal, the comparison says no
-ne_eqb : (m n : ℕ) → m ≢ n → eqb m n ≡ false
-ne_eqb m n d = ⊎_elim (λ y. absurd (d (eqb_eq m n y))) (λ y. y) (known (eqb m n))
 
 -- a mark is there or not
 square_lt : (m : List ℕ) (c : ℕ) → square m c < 2
@@ -152,17 +149,6 @@ simple_bits n p few l none pair =
     let six : p < 4 ^ 6 = lt_of_lt_of_le l (pow-le-pow_right {n = 4} (omega arith) few) in
     let zeros : has (bit_and (bit_and p (p / 2)) 1365) (2 * j) ≡ 0 = rw none (has_none 0 (2 * j) (pow_pos (2 * j))) in
     omega (arith, digit p j, pairs_even p six j, has_lt p (2 * j), has_lt p (suc (2 * j)))
-
--- phrases met one after the other are met in two parts
-pub strike_append : (n : ℕ) (xs ys left : List ℕ) → strike n (xs ++ ys) left ≡ strike n ys (strike n xs left)
-unfolding strike
-strike_append n [] ys left = refl
-strike_append n (p ∷ xs) ys left = strike_append n xs ys (cond (implicant? n (sheet_fn n (without p left)) p) (without p left) left)
-
--- one phrase met is struck where the rest makes it superfluous
-pub strike_one : (n p : ℕ) (left : List ℕ) → strike n (p ∷ []) left ≡ cond (implicant? n (sheet_fn n (without p left)) p) (without p left) left
-unfolding strike
-strike_one n p left = refl
 
 -- a phrase that the rest makes superfluous is struck
 pub strike_struck : (n p : ℕ) (ps left : List ℕ) → implicant? n (sheet_fn n (without p left)) p ≡ true
@@ -341,19 +327,42 @@ meets_asked left rest u o p found removed up out covered n f i few of l is w =
     let bounded : get_or (primes n f) i 0 < 4096 = lt_of_lt_of_le (prime_lt n f i l) (pow-le-pow_right {n = 4} (omega arith) few) in
     walking_asks n f left (ones p) i l w (ap ones (sym is)) rest (rw is at removed) few u o found up out (λ t. rw is at (covered.0 t).1, λ s. covered.1 (rw is bounded, rw is s))
 
-module _ (left₀ codes : List ℕ) (count k : ℕ) where
-  -- a round begins behind the last prime
-  pub round_begins : Round left₀ codes count k count left₀
-  round_begins n f few of (e, at) w = rw e at (walking_round n f left₀ k w)
+module _ (left₀ codes : List ℕ) (k : ℕ) where
+  -- the codes begin with rest, and meeting the primes with k literals behind it leaves the marks left
+  abbrev pub Behind : List ℕ → List ℕ → Type 0
+  Behind rest left = (met : List ℕ) × (codes ≡ rest ++ met) × Round left₀ codes (length codes) k (length rest) left
 
-  module _ (i : ℕ) (l : i < count) (left : List ℕ) (h : Round left₀ codes count k (suc i) left) where
+  -- a round begins behind the last prime
+  pub round_begins : Behind codes left₀
+  round_begins = ([], sym (append-nil codes), λ n f few of (e, at) w. rw e at (walking_round n f left₀ k w))
+
+  module _ (rest : List ℕ) (p : ℕ) (left : List ℕ) (h : Behind (rest ++ (p ∷ [])) left) where
+    abbrev i : ℕ
+    i = length rest
+
+    whole : codes ≡ rest ++ (p ∷ h.0)
+    whole = h.1 ∙ append_assoc rest (p ∷ []) h.0
+
+    is : get_or codes i 0 ≡ p
+    is = ap (λ (xs : List ℕ). get_or xs i 0) whole ∙ get_or-append_seam rest p h.0 0
+
+    l : i < length codes
+    l = omega (arith, ap length whole, length-append rest (p ∷ h.0))
+
+    round : Round left₀ codes (length codes) k (suc i) left
+    round = let e : length (rest ++ (p ∷ [])) ≡ suc i = omega (arith, length-append rest (p ∷ [])) in rw e at h.2
+
     -- a prime with another number of literals is passed
-    pub round_passes : ones (get_or codes i 0) ≢ k → Round left₀ codes count k i left
-    round_passes d n f few of (e, at) w = walking_passes n f left k i (rw e l) (h n f few of (e, at) w) (rw (at i l) at d)
+    pub round_passes : ones p ≢ k → Behind rest left
+    round_passes d = (p ∷ h.0, whole, λ n f few of (e, at) w. walking_passes n f left k i (rw e l) (round n f few of (e, at) w) (rw (← (at i l), is) d))
 
     -- one with k literals is met
-    pub round_meets : (r : List ℕ) → ones (get_or codes i 0) ≡ k → Meets left (get_or codes i 0) r → Round left₀ codes count k i r
-    round_meets r z met n f few of (e, at) w = rw z at (met n f i few of (rw e l) (at i l) (rw z (h n f few of (e, at) w)))
+    pub round_meets : (r : List ℕ) → ones p ≡ k → Meets left p r → Behind rest r
+    round_meets r z meets = (p ∷ h.0, whole, λ n f few of (e, at) w. rw z at (meets n f i few of (rw e l) (sym is ∙ at i l) (rw z (round n f few of (e, at) w))))
+
+  -- a round ends where no code is left
+  pub round_ends : (rest left : List ℕ) → length rest ≡ 0 → Behind rest left → Round left₀ codes (length codes) k 0 left
+  round_ends rest left e h = rw e at h.2
 
 module _ (n : ℕ) (left₀ codes : List ℕ) (count : ℕ) where
   -- the walk begins with the most literals that there can be

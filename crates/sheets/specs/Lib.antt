@@ -1,5 +1,6 @@
 -- What the calls promise, in document 01's terms.
---   Answer      a number and a detail; the first refusal of several
+--   Answer      a number and a detail, and what stands beside them; the first refusal of several
+--   Told        what a call's result tells in these terms
 --   Refusal     each refusal and its detail; what each call refuses, in order
 --   Value       the answer of `value`, and its promise
 --   Implicant   the answer of `implicant`, and its promise
@@ -7,6 +8,7 @@
 --   Listing     the answers of `list`, `join`, `meet` and `complement`, their buffers, and their promises
 --   Walk        the walk over marks that `list` takes to its cover
 pub mod Answer
+pub mod Told
 pub mod Refusal
 pub mod Value
 pub mod Implicant

@@ -3,6 +3,7 @@
 --   of_sheet n F, of_pair n A B   the checks on one sheet, and on two, in document 01's order
 --   listed_answer checks ps room  the answer: how many entries the list ps has, 0 on a refusal
 --   afterwards r new old          a lent buffer that held old, once the answer is given: new at its front where the call is done, else as it came
+--   PairPromise made              the promise of a call that makes a list of two sheets
 --   ListPromise, JoinPromise, MeetPromise, ComplementPromise
 --                                 r is the answer, the sheets are as they came, and the buffers hold the list (and the flags) where the call is done
 use Rattle.std.specs.Prelude.{◌≡◌, cond, ℕ, min, List, [], ◌∷◌, ◌++◌, eqb, leb, length}
@@ -10,9 +11,7 @@ use Rattle.fuzzy.specs.Function.{sheet_fn}
 use Rattle.fuzzy.specs.Primes.{listed, joined, met, complemented}
 use Rattle.fuzzy.specs.Cover.{flags}
 use Rattle.rows.specs.Read.{written}
-use Rattle.sheets.specs.declared.answer.Answer.{Answer}
-use Rattle.sheets.specs.declared.Listed.{Listed}
-use Rattle.sheets.specs.Answer.{unless, first_of}
+use Rattle.sheets.specs.Answer.{Answer, Listed, unless, first_of}
 use Rattle.sheets.specs.Refusal.{variables, phrases, codes}
 
 -- 4: the result does not fit the room; the entries needed
@@ -44,19 +43,20 @@ pub record ListPromise (n : ℕ) (F cs fs : List ℕ) (r : Listed) (F' cs' fs' :
   pub codes_after : cs' ≡ afterwards r (listed n F) cs
   pub flags_after : fs' ≡ afterwards r (flags n (sheet_fn n F)) fs
 
--- what `join` promises
-pub record JoinPromise (n : ℕ) (A B cs : List ℕ) (r : Listed) (A' B' cs' : List ℕ) : Type 0 where
-  pub answered : r ≡ listed_answer (of_pair n A B) (joined n A B) (length cs)
+-- what a call that makes a list of two sheets promises
+pub record PairPromise (made : ℕ → List ℕ → List ℕ → List ℕ) (n : ℕ) (A B cs : List ℕ) (r : Listed) (A' B' cs' : List ℕ) : Type 0 where
+  pub answered : r ≡ listed_answer (of_pair n A B) (made n A B) (length cs)
   pub first_kept : A' ≡ A
   pub second_kept : B' ≡ B
-  pub codes_after : cs' ≡ afterwards r (joined n A B) cs
+  pub codes_after : cs' ≡ afterwards r (made n A B) cs
+
+-- what `join` promises
+abbrev pub JoinPromise : ℕ → List ℕ → List ℕ → List ℕ → Listed → List ℕ → List ℕ → List ℕ → Type 0
+JoinPromise = PairPromise joined
 
 -- what `meet` promises
-pub record MeetPromise (n : ℕ) (A B cs : List ℕ) (r : Listed) (A' B' cs' : List ℕ) : Type 0 where
-  pub answered : r ≡ listed_answer (of_pair n A B) (met n A B) (length cs)
-  pub first_kept : A' ≡ A
-  pub second_kept : B' ≡ B
-  pub codes_after : cs' ≡ afterwards r (met n A B) cs
+abbrev pub MeetPromise : ℕ → List ℕ → List ℕ → List ℕ → Listed → List ℕ → List ℕ → List ℕ → Type 0
+MeetPromise = PairPromise met
 
 -- what `complement` promises
 pub record ComplementPromise (n : ℕ) (A cs : List ℕ) (r : Listed) (A' cs' : List ℕ) : Type 0 where

@@ -10,8 +10,7 @@
 --   value_refusal n F s v     what `value` refuses, done where it refuses nothing
 --   question_refusal n F p    what `implicant` refuses, done where it refuses nothing
 use Rattle.std.specs.Prelude.{ℕ, suc, ◌+◌, ◌^◌, cond, ◌&&◌, List, [], ◌∷◌, eqb, leb, ltb, length}
-use Rattle.sheets.specs.declared.answer.Answer.{Answer}
-use Rattle.sheets.specs.Answer.{unless, first_of}
+use Rattle.sheets.specs.Answer.{Answer, unless, first_of}
 
 -- the index of the first entry that is at least the limit, how many there are where none is
 unfoldable pub first_at_least : ℕ → List ℕ → ℕ

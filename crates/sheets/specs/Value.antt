@@ -3,7 +3,7 @@
 --   ValuePromise n F s v r F' v'         r is the answer, and the lent sheet and grades are afterwards as they came
 use Rattle.std.specs.Prelude.{◌≡◌, ℕ, cond, List, eqb}
 use Rattle.fuzzy.specs.Grade.{sheet_value}
-use Rattle.sheets.specs.declared.Valued.{Valued}
+use Rattle.sheets.specs.Answer.{Valued}
 use Rattle.sheets.specs.Refusal.{value_refusal}
 
 -- the answer: the sheet's value, 0 on a refusal

@@ -1,53 +1,40 @@
 // Lists as they are handed out: read into lent buffers, or refused for want of room.
-ghost use Rattle.std.specs.Prelude.{◌≡◌, [], ◌≤◌, min, length};
+ghost use Rattle.std.specs.Prelude.{◌≡◌, [], ◌≤◌, length};
 ghost use Rattle.rows.specs.Read.{marks_of};
 ghost use Rattle.sheets.specs.Listing.{listed_answer, afterwards};
+ghost use Rattle.sheets.specs.Told.{count_told};
 ghost use Rattle.sheets.specs.Walk.{Flagged};
 
-use crate::{Listed, answer};
+use crate::refusal::Refusal;
+use rows::Marks;
 
-// The answer for the marked codes: refused where they do not fit the room.
-pub(crate) fn fit(primes: [u64; 64], room: usize) -> Listed
-    ensures { result ≡ listed_answer [] (marks_of primes 4096) room }
+// How many codes are marked; 4: they do not fit the room.
+pub(crate) fn fit(primes: &Marks, room: usize) -> Result<usize, Refusal>
+    ensures { count_told result ≡ listed_answer [] (marks_of primes.now.rows 4096) room }
 {
-    let count = rows::count(primes);
-    let answer = answer::unless(count <= room, answer::NO_ROOM, count as u64);
-    if answer.number != answer::DONE {
-        return Listed { answer, count: 0 };
+    let count = primes.count();
+    if count > room {
+        return Err(Refusal::NoRoom(count));
     }
-    Listed { answer, count }
+    Ok(count)
 }
 
 // Reads the marked codes into the buffer, if they fit.
-pub(crate) fn publish(primes: [u64; 64], codes: &mut [u16]) -> Listed
-    ensures { (result ≡ listed_answer [] (marks_of primes 4096) (length codes.old)) × (codes.new ≡ afterwards result (marks_of primes 4096) codes.old) }
+pub(crate) fn publish(primes: &Marks, codes: &mut [u16]) -> Result<usize, Refusal>
+    ensures answer { count_told result ≡ listed_answer [] (marks_of primes.now.rows 4096) (length codes.old) }
+    ensures buffer { codes.new ≡ afterwards (count_told result) (marks_of primes.now.rows 4096) codes.old }
 {
-    let listed = fit(primes, codes.len());
-    if listed.answer.number != answer::DONE {
-        return listed;
-    }
-    rows::read(primes, codes);
-    listed
+    let count = fit(primes, codes.len())?;
+    primes.read(codes);
+    Ok(count)
 }
 
-// The shorter of two lengths.
-pub(crate) fn shorter(first: usize, second: usize) -> usize
-    ensures { result ≡ min first second }
+// Gives each code its flag: 1 where it is kept, else 0.
+pub(crate) fn flag(kept: &Marks, codes: &[u16], flags: &mut [u8])
+    requires { length codes.now ≤ length flags.old }
+    ensures { Flagged kept.now.rows codes.now (length codes.now) flags.old flags.new }
 {
-    if second < first {
-        return second;
-    }
-    first
-}
-
-// Gives each of the first `count` codes its flag: 1 where it is kept, else 0.
-pub(crate) fn flag(kept: [u64; 64], codes: &[u16], count: usize, flags: &mut [u8])
-    requires { (count ≤ length codes.now) × (count ≤ length flags.old) }
-    ensures { Flagged kept codes.now count flags.old flags.new }
-{
-    let mut i = 0;
-    while i < count {
-        flags[i] = rows::holds(kept, codes[i]) as u8;
-        i += 1;
+    for (i, code) in codes.iter().enumerate() {
+        flags[i] = kept.holds(*code) as u8;
     }
 }

@@ -1,20 +1,20 @@
 // Within maps of sheets over six variables, and the marks of the primes that they give.
-ghost use mathlib.Core.List.{Memᴰ};
-ghost use Rattle.std.specs.Prelude.{ℕ, ◌<◌};
 ghost use Rattle.sheets.specs.Maps.{Maps, PrimesOf};
 
+use crate::sheet::{Sheet, Variables};
+use rows::Marks;
+
 // The codes that have some phrase of the sheet within them.
-pub(crate) fn of_sheet(sheet: &[u16]) -> [u64; 64]
-    requires { (q : ℕ) → Memᴰ q sheet.now → q < 4096 }
-    ensures { Maps sheet.now result }
+pub(crate) fn of_sheet(sheet: &Sheet) -> Marks
+    ensures { Maps sheet.now.phrases.now result.rows }
 {
-    rows::close_up(rows::marked(sheet))
+    Marks::of(sheet.phrases).close_up()
 }
 
 // The primes over n variables of what has the map: the least codes that no simple or full code outside it subsumes.
-pub(crate) fn primes(n: usize, within: [u64; 64]) -> [u64; 64]
-    ensures { PrimesOf n within result }
+pub(crate) fn primes(n: Variables, within: &Marks) -> Marks
+    ensures { PrimesOf n.count within.now.rows result.rows }
 {
-    let no_implicants = rows::close_down(rows::outside(within));
-    rows::cut(rows::least(rows::others(no_implicants)), n)
+    let no_implicants = within.outside().close_down();
+    no_implicants.others().least().cut(n.count)
 }

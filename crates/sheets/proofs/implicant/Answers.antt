@@ -1,25 +1,22 @@
--- `implicant` meets its promise: a refusal, a no with its vector and a yes are what the promise says.
+-- `implicant` meets its promise: a refusal of the sheet, one of the phrase, and a verdict are what the promise says.
 use native.Mathlib.Omega.{arith}
-use Rattle.sheets.proofs.Promise.{question_refused, question_no, question_yes}
-use Rattle.sheets.proofs.Refused.{question_in_order}
+use Rattle.sheets.proofs.Refused.{last_link}
+use Rattle.sheets.proofs.Promise.{question_sheet_refused, phrase_refused, phrase_below, question_done}
 use Rattle.sheets.proofs.implicant.Goals as goal
 
-pub returns-then-answer-ne-DONE : goal.returns-then-answer-ne-DONE
-returns-then-answer-ne-DONE c = question_refused _ _ _ _ c.of_question-answer.ensures c.if-answer-ne-DONE.true
+pub returns-in_err-sheet : goal.returns-in_err-sheet
+returns-in_err-sheet c = question_sheet_refused _ _ _ _ _ c.from_residual.ensures.1 c.in_err-sheet.ensures.answer
 
-pub lowest-lowest-requires : goal.lowest-lowest-requires
-lowest-lowest-requires c =
-    let a = c.args in
-    let (few, (below, all)) = question_in_order a.n a.sheet.now a.phrase (rw c.of_question-answer.ensures at c.if-answer-ne-DONE.false) in
-    record { n_bound = few; phrase_bound = below; codes_bound = all }
+pub returns-in_err-asks : goal.returns-in_err-asks
+returns-in_err-asks c =
+    phrase_refused _ _ _ c.in_ok-sheet.ensures.answer _ _ c.from_residual-in_err-asks.ensures.1
+    (last_link _ _ _ _ (omega arith) (rw c.in_ok-sheet.ensures.given.0 at c.in_err-asks.ensures))
 
-pub power-requires : goal.power-requires
-power-requires c =
-    let a = c.args in
-    (omega arith, (question_in_order a.n a.sheet.now a.phrase (rw c.of_question-answer.ensures at c.if-answer-ne-DONE.false)).0)
-
-pub returns-then-lowest-power : goal.returns-then-lowest-power
-returns-then-lowest-power c = question_no _ _ _ _ c.of_question-answer.ensures c.if-answer-ne-DONE.false _ c.lowest-lowest.ensures (rw c.power.ensures at c.if-lowest-power.true)
+pub lowest-requires : goal.lowest-requires
+lowest-requires c = phrase_below _ _ c.in_ok-asks.ensures
 
 pub returns : goal.returns
-returns c = question_yes _ _ _ _ c.of_question-answer.ensures c.if-answer-ne-DONE.false _ c.lowest-lowest.ensures (rw c.power.ensures at c.if-lowest-power.false)
+returns c =
+    let (same_n, same_phrases) = c.in_ok-sheet.ensures.given in
+    question_done _ _ _ c.in_ok-sheet.ensures.answer (last_link _ _ _ _ (omega arith) (rw same_n at c.in_ok-asks.ensures)) _
+    (rw (same_n, same_phrases) at c.lowest.ensures)

@@ -1,72 +1,72 @@
 -- `list` meets its promise: a refusal of the sheet, one for want of room, and the list with its flags.
 use mathlib.Core.Path.{refl, sym, ◌∙◌}
+use Rattle.std.proofs.Common.{length-take-le}
 use Rattle.fuzzy.proofs.Closure.{of_sheet_lem}
 use Rattle.fuzzy.specs.Function.{sheet_fn}
-use Rattle.sheets.proofs.Flags.{codes_fit, flags_fit, reads_primes, flags_done}
-use Rattle.sheets.proofs.Lists.{few_codes, listed_marks}
-use Rattle.sheets.proofs.Published.{listed_refused, afterwards_refused, listed_room, written_done, done_fits}
-use Rattle.sheets.proofs.Refused.{sheet_in_order}
+use Rattle.sheets.proofs.Flags.{codes_fit, flags_fit, front_read, reads, flags_done}
+use Rattle.sheets.proofs.Lists.{listed_marks}
+use Rattle.sheets.proofs.Published.{told_no_count, listed_err, afterwards_err, listed_room, written_done, done_fits}
+use Rattle.sheets.specs.Answer.{Listed, done}
 use Rattle.sheets.specs.Listing.{of_sheet}
 use Rattle.sheets.proofs.list.Goals as goal
 
-pub returns-then-answer-ne-DONE : goal.returns-then-answer-ne-DONE
-returns-then-answer-ne-DONE c =
+pub returns-in_err-sheet : goal.returns-in_err-sheet
+returns-in_err-sheet c =
     let a = c.args in
-    let d = c.if-answer-ne-DONE.true in record {
-      answered = listed_refused (of_sheet a.n a.sheet.now) _ _ _ c.of_sheet-answer.ensures d;
+    let h = c.from_residual.ensures.1 in record {
+      answered = listed_err (of_sheet a.n a.sheet.now) _ _ _ _ h c.in_err-sheet.ensures.answer;
       sheet_kept = refl;
-      codes_after = sym (afterwards_refused _ _ _ d);
-      flags_after = sym (afterwards_refused _ _ _ d);
+      codes_after = afterwards_err _ _ _ _ h;
+      flags_after = afterwards_err _ _ _ _ h;
     }
 
-pub of_sheet-requires : goal.of_sheet-requires
-of_sheet-requires c =
+pub returns-in_err-count : goal.returns-in_err-count
+returns-in_err-count c =
     let a = c.args in
-    let (few, below) = sheet_in_order a.n a.sheet.now (rw c.of_sheet-answer.ensures at c.if-answer-ne-DONE.false) in
-    few_codes a.n _ few below
-
-pub returns-then-listed-ne-DONE : goal.returns-then-listed-ne-DONE
-returns-then-listed-ne-DONE c =
-    let a = c.args in
-    let refused = c.of_sheet-answer.ensures in
-    let (few, below) = sheet_in_order a.n a.sheet.now (rw refused at c.if-answer-ne-DONE.false) in
-    let marks = listed_marks a.n few a.sheet.now _ _ below c.of_sheet.ensures c.primes-primes.ensures in
-    let d = c.if-listed-ne-DONE.true in record {
-      answered = listed_room (of_sheet a.n a.sheet.now) _ _ _ refused c.if-answer-ne-DONE.false _ (rw (marks, c.shorter.ensures) at c.fit-listed.ensures);
+    let s = c.in_ok-sheet.sheet in
+    let (same_n, same_phrases) = c.in_ok-sheet.ensures.given in
+    let marks = rw (same_n, same_phrases) at (listed_marks s.n.count s.n.few s.phrases.now _ _ s.own c.of_sheet.ensures c.primes-primes.ensures) in
+    let h = c.from_residual-in_err-count.ensures.1 in
+    let short = c.min.ensures in record {
+      answered = listed_room (of_sheet a.n a.sheet.now) _ _ c.in_ok-sheet.ensures.answer _ (told_no_count _ _ h ∙ rw (marks, short) at c.in_err-count.ensures);
       sheet_kept = refl;
-      codes_after = sym (afterwards_refused _ _ _ d);
-      flags_after = sym (afterwards_refused _ _ _ d);
+      codes_after = afterwards_err _ _ _ _ h;
+      flags_after = afterwards_err _ _ _ _ h;
     }
 
-pub walk-kept-requires : goal.walk-kept-requires
-walk-kept-requires c =
-    let a = c.args in (
-      (sheet_in_order a.n a.sheet.now (rw c.of_sheet-answer.ensures at c.if-answer-ne-DONE.false)).0,
-      rw c.read.ensures.1 (codes_fit _ _ a.flags.now _ c.shorter.ensures _ c.fit-listed.ensures c.if-listed-ne-DONE.false).1,
-    )
+pub slice_bounds-listed-end : goal.slice_bounds-listed-end
+slice_bounds-listed-end c =
+    rw c.read.ensures.1 (codes_fit _ c.args.codes.now c.args.flags.now _ c.min.ensures _ c.in_ok-count.ensures refl).1
+
+pub slice_bounds-listed-end-2 : goal.slice_bounds-listed-end-2
+slice_bounds-listed-end-2 c = sym (length-take-le _ _ (slice_bounds-listed-end c))
 
 pub flag-requires : goal.flag-requires
 flag-requires c =
-    let a = c.args in (
-      rw c.read.ensures.1 (codes_fit _ _ a.flags.now _ c.shorter.ensures _ c.fit-listed.ensures c.if-listed-ne-DONE.false).1,
-      flags_fit _ a.codes.now a.flags.now _ c.shorter.ensures _ c.fit-listed.ensures c.if-listed-ne-DONE.false,
-    )
+    let fit = c.in_ok-count.ensures in
+    let end = rw (← c.read.ensures.1) at (codes_fit _ c.args.codes.now c.args.flags.now _ c.min.ensures _ fit refl).1 in
+    rw (length-take-le _ _ end) (flags_fit _ c.args.codes.now c.args.flags.now _ c.min.ensures _ fit refl)
 
 pub returns : goal.returns
 returns c =
     let a = c.args in
-    let refused = c.of_sheet-answer.ensures in
-    let (few, below) = sheet_in_order a.n a.sheet.now (rw refused at c.if-answer-ne-DONE.false) in
-    let marks = listed_marks a.n few a.sheet.now _ _ below c.of_sheet.ensures c.primes-primes.ensures in
-    let short = c.shorter.ensures in
-    let fit = c.fit-listed.ensures in
-    let done = c.if-listed-ne-DONE.false in
-    let fits = (codes_fit _ a.codes.now a.flags.now _ short _ fit done).0 in
+    let s = c.in_ok-sheet.sheet in
+    let f = sheet_fn s.n.count s.phrases.now in
+    let (same_n, same_phrases) = c.in_ok-sheet.ensures.given in
+    let marks = listed_marks s.n.count s.n.few s.phrases.now _ _ s.own c.of_sheet.ensures c.primes-primes.ensures in
+    let marked = rw (same_n, same_phrases) at marks in
+    let short = c.min.ensures in
+    let r : Listed = record { answer = done; count = c.in_ok-count.count } in
+    let fit = c.in_ok-count.ensures in
+    let fits = (codes_fit _ a.codes.now a.flags.now _ short _ fit refl).0 in
     let read = c.read.ensures.1 in
-    let reads = rw (← (done_fits _ _ _ fit done).1, ← read) at (reads_primes a.n (sheet_fn a.n a.sheet.now) _ a.codes.now marks fits) in
-    let kept = c.walk-kept.ensures (sheet_fn a.n a.sheet.now) (of_sheet_lem a.n a.sheet.now) reads marks in record {
-      answered = listed_room (of_sheet a.n a.sheet.now) _ _ _ refused c.if-answer-ne-DONE.false _ (rw (marks, short) at fit);
+    let front = rw (← read) at (front_read _ a.codes.now c.in_ok-count.count (done_fits _ _ _ fit refl).1 fits) in
+    let listed = front ∙ marks in
+    let end = rw (← read) at (codes_fit _ a.codes.now a.flags.now _ short _ fit refl).1 in
+    let room = rw (← (length-take-le _ _ end)) at (flags_fit _ a.codes.now a.flags.now _ short _ fit refl) in
+    let kept = c.walk-kept.ensures f (of_sheet_lem s.n.count s.phrases.now) (reads s.n.count f _ listed) marks in record {
+      answered = listed_room (of_sheet a.n a.sheet.now) _ _ c.in_ok-sheet.ensures.answer _ (rw (marked, short) at fit);
       sheet_kept = refl;
-      codes_after = rw marks at (read ∙ written_done c.fit-listed.result _ a.codes.now done fits);
-      flags_after = flags_done a.n _ _ c.read.new.codes a.flags.now _ _ few kept reads (flags_fit _ a.codes.now a.flags.now _ short _ fit done) done c.flag.ensures;
+      codes_after = rw marked at (read ∙ written_done r _ a.codes.now refl fits);
+      flags_after = rw (same_n, same_phrases) at (flags_done s.n.count f _ _ a.flags.now _ r s.n.few kept listed room refl c.flag.ensures);
     }

@@ -1,16 +1,19 @@
--- `value` meets its promise: a refusal and a value are what the promise says.
-use Rattle.sheets.proofs.Promise.{value_refused, value_done}
-use Rattle.sheets.proofs.Refused.{value_in_order}
+-- `value` meets its promise: a refusal of the sheet, one of the grades, and a value are what the promise says.
+use mathlib.Core.Path.{◌∙◌}
+use Rattle.sheets.proofs.Promise.{value_sheet_refused, value_grades_refused, value_done}
 use Rattle.sheets.proofs.value.Goals as goal
 
-pub returns-then-answer-ne-DONE : goal.returns-then-answer-ne-DONE
-returns-then-answer-ne-DONE c = value_refused _ _ _ _ _ c.of_value-answer.ensures c.if-answer-ne-DONE.true
+pub returns-in_err-sheet : goal.returns-in_err-sheet
+returns-in_err-sheet c = value_sheet_refused _ _ _ _ _ _ c.from_residual.ensures.1 c.in_err-sheet.ensures.answer
 
-pub sheet_value-requires : goal.sheet_value-requires
-sheet_value-requires c =
-    let a = c.args in
-    let (few, graded) = value_in_order a.n a.sheet.now a.scale a.grades.now (rw c.of_value-answer.ensures at c.if-answer-ne-DONE.false) in
-    record { n_bound = few; grades = graded }
+pub returns-in_err-grades : goal.returns-in_err-grades
+returns-in_err-grades c =
+    let (same_n, same_phrases) = c.in_ok-sheet.ensures.given in
+    value_grades_refused _ _ _ _ c.in_ok-sheet.ensures.answer _ _ c.from_residual-in_err-grades.ensures.1 (rw same_n at c.in_err-grades.ensures.answer)
 
 pub returns : goal.returns
-returns c = value_done _ _ _ _ _ c.of_value-answer.ensures c.if-answer-ne-DONE.false _ c.sheet_value.ensures
+returns c =
+    let (same_n, same_phrases) = c.in_ok-sheet.ensures.given in
+    let (same_scale, same_grades, many) = c.in_ok-grades.ensures.given in
+    value_done _ _ _ _ c.in_ok-sheet.ensures.answer (rw same_n at c.in_ok-grades.ensures.answer) _
+    (c.of_sheet.ensures ∙ rw (same_scale, same_grades, many, same_n, same_phrases))

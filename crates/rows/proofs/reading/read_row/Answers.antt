@@ -1,63 +1,37 @@
--- `reading::read_row` meets its contract.
-use mathlib.Core.Path.{◌≡◌, refl, sym, ap, ◌∙◌}
-use mathlib.Core.List.{[]}
-use Prim.Native.Nat.{ℕ, suc, ◌-◌, ◌^◌, ◌<◌}
-use native.Mathlib.Omega.{arith}
-use lib.Bits.{bit_and, and_le_r}
-use lib.Count.{trailing_le}
-use lib.ListN.{length, length-set}
-use lib.Seq.{sets}
-use Rattle.rows.proofs.LowestBit.{row_none, write_turn, write_less}
+-- `reading::read_row` meets its contract: a turn writes the row's lowest code and leaves out that one, by the laws of `LowestBit`.
+use Rattle.std.proofs.Common.{◌≡◌, ◌<◌, [], arith, refl, sym, ap, ◌∙◌}
+use Rattle.std.proofs.lemmas.List.{nil_from_length}
+use Rattle.std.proofs.lemmas.List.Edits.{sets}
+use Rattle.rows.proofs.Selected.{row_ones}
+use Rattle.rows.proofs.LowestBit.{row_some, write_turn, write_less}
 use Rattle.rows.specs.Read.{row_marks}
 use Rattle.rows.proofs.reading.read_row.Goals as goal
 
 -- there is a one left
-positive : (c : goal.In-loop-rest) → 0 < c.loop-rest.rest
-positive c = omega arith
+positive : (c : goal.In-loop-next) → 0 < c.loop-next.rest
+positive c = row_some c.loop-next.rest c.args.base (omega (arith, c.loop-next.invariant.0, c.loop-next-test.true))
 
-in-word : (c : goal.In-loop-rest) → c.loop-rest.rest < 2 ^ 64
-in-word c = omega (arith, c.ranges.row.fits)
-
--- one code fewer is left after a turn
-one_less : (c : goal.In-loop-rest) → length (row_marks c.loop-rest.rest c.args.base)
-    ≡ suc (length (row_marks (bit_and c.loop-rest.rest (c.loop-rest.rest - 1)) c.args.base))
-one_less c = write_less c.loop-rest.rest c.args.base (positive c) (in-word c)
-
-pub loop-rest-init : goal.loop-rest-init
-loop-rest-init c = (omega arith, refl, refl, refl)
-
-pub overflow_cast-codes : goal.overflow_cast-codes
-overflow_cast-codes c = omega (arith, trailing_le 64 c.loop-rest.rest)
-
-pub overflow_add-codes : goal.overflow_add-codes
-overflow_add-codes c = omega (arith, trailing_le 64 c.loop-rest.rest, c.requires.base_bound)
+pub loop-next-init : goal.loop-next-init
+loop-next-init c = (omega (arith, row_ones c.args.row c.args.base c.ranges.row.fits), refl)
 
 pub bounds-codes-next : goal.bounds-codes-next
-bounds-codes-next c = omega (arith, one_less c, c.requires.room, c.loop-rest.invariant)
+bounds-codes-next c =
+    omega (arith, c.loop-next-test.true, row_ones c.args.row c.args.base c.ranges.row.fits, c.requires.room, c.loop-next.auto.codes)
 
-pub overflow_add-next : goal.overflow_add-next
-overflow_add-next c = omega (arith, one_less c, c.requires.room, c.loop-rest.invariant)
+pub overflow_sub-rest : goal.overflow_sub-rest
+overflow_sub-rest c = omega (arith, positive c)
 
-pub loop-rest-smaller : goal.loop-rest-smaller
-loop-rest-smaller c = omega (arith, positive c, and_le_r c.loop-rest.rest (c.loop-rest.rest - 1))
-
-pub loop-rest-preserved : goal.loop-rest-preserved
-loop-rest-preserved c =
-    let l = c.loop-rest in
+pub loop-next-preserved : goal.loop-next-preserved
+loop-next-preserved c =
+    let l = c.loop-next in
     let base = c.args.base in (
-      omega (arith, and_le_r l.rest (l.rest - 1)),
-      simp length-set l.invariant.1,
-      omega (arith, one_less c, l.invariant.2),
-      write_turn l.rest base (positive c) (in-word c) l.codes l.next ∙ l.invariant.3,
+      omega (arith, write_less l.rest base (positive c) l.auto.rest-fits.fits, l.invariant.0),
+      write_turn l.rest base (positive c) l.auto.rest-fits.fits l.codes l.next ∙ l.invariant.1,
     )
-
-pub shape_of-codes : goal.shape_of-codes
-shape_of-codes c = c.loop-rest.invariant.1
 
 pub returns : goal.returns
 returns c =
-    let l = c.loop-rest in
+    let l = c.loop-next in
     let base = c.args.base in
-    let e : row_marks l.rest base ≡ [] = ap (λ (x : ℕ). row_marks x base) c.loop-rest-test.false ∙ row_none base in
-    let at-end : length (row_marks l.rest base) ≡ 0 = ap length e in
-    (omega (arith, l.invariant.2), ap (sets l.codes l.next) (sym e) ∙ l.invariant.3)
+    let all : row_marks l.rest base ≡ [] = nil_from_length (row_marks l.rest base) (omega (arith, l.invariant.0, c.loop-next-test.false)) in
+    (omega (arith, row_ones c.args.row base c.ranges.row.fits), ap (sets l.codes l.next) (sym all) ∙ l.invariant.1)

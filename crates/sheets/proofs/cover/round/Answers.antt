@@ -1,34 +1,30 @@
 -- `cover::round` meets its contract.
 use mathlib.Core.Path.{◌≡◌}
-use Prim.Native.Nat.{suc, ◌-◌}
-use native.Mathlib.Omega.{arith}
-use Rattle.sheets.proofs.Walked.{round_begins, round_passes, round_meets}
+use Rattle.sheets.proofs.Walked.{round_begins, round_passes, round_meets, round_ends}
 use Rattle.sheets.proofs.cover.round.Goals as goal
 
-pub loop-i-init : goal.loop-i-init
-loop-i-init c = let a = c.args in (omega arith, round_begins a.left a.codes.now a.count a.literals)
-
-pub loop-i-preserved-then-prime-literals : goal.loop-i-preserved-then-prime-literals
-loop-i-preserved-then-prime-literals c =
-    let l = c.loop-i in
+pub loop-prime-init : goal.loop-prime-init
+loop-prime-init c =
     let a = c.args in
-    let e : l.i ≡ suc (l.i - 1) = omega arith in (
-      omega arith,
-      round_meets a.left a.codes.now a.count a.literals (l.i - 1) (omega arith) l.left (rw e at l.invariant.1) _
-          c.if-prime-literals.true c.meet-rest.ensures,
-    )
+    let e : c.into_iter-prime-iterator.result.iter.rest.now ≡ a.codes.now = cc in
+    rw e (round_begins a.left.rows a.codes.now a.literals)
 
-pub loop-i-preserved : goal.loop-i-preserved
-loop-i-preserved c =
-    let l = c.loop-i in
+pub loop-prime-preserved-then-prime-literals : goal.loop-prime-preserved-then-prime-literals
+loop-prime-preserved-then-prime-literals c =
     let a = c.args in
-    let e : l.i ≡ suc (l.i - 1) = omega arith in (
-      omega arith,
-      round_passes a.left a.codes.now a.count a.literals (l.i - 1) (omega arith) l.left (rw e at l.invariant.1) c.if-prime-literals.false,
-    )
+    let l = c.loop-prime in
+    round_meets a.left.rows a.codes.now a.literals c.next.new.self.iter.rest.now c.in-Some.prime.now l.left.rows (rw c.in-Some.ensures.steps at l.invariant)
+    _ c.if-prime-literals.true c.meet-left.ensures
+
+pub loop-prime-preserved : goal.loop-prime-preserved
+loop-prime-preserved c =
+    let a = c.args in
+    let l = c.loop-prime in
+    round_passes a.left.rows a.codes.now a.literals c.next.new.self.iter.rest.now c.in-Some.prime.now l.left.rows (rw c.in-Some.ensures.steps at l.invariant)
+    c.if-prime-literals.false
 
 pub returns : goal.returns
 returns c =
-    let l = c.loop-i in
-    let e : l.i ≡ 0 = omega arith in
-    rw e at l.invariant.1
+    let a = c.args in
+    let l = c.loop-prime in
+    round_ends a.left.rows a.codes.now a.literals l.prime-iterator.iter.rest.now l.left.rows c.in-None.ensures.steps.0 l.invariant

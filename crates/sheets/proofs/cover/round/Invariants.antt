@@ -1,10 +1,6 @@
--- The loop's invariant: the primes with so many literals have been met down to the i-th.
-use Prim.Native.Nat.{◌≤◌}
-use Rattle.sheets.specs.Walk.{Round}
+-- The loop's invariant: the primes with so many literals have been met behind what is left of the codes.
+use Rattle.sheets.proofs.Walked.{Behind}
 use Rattle.sheets.proofs.cover.round.Given as goal
 
-abbrev pub invariant-loop-i : goal.invariant-loop-i
-invariant-loop-i l = (l.i ≤ l.count) × Round l.initial.left l.codes l.count l.literals l.i l.left
-
-abbrev pub decreases-loop-i : goal.decreases-loop-i
-decreases-loop-i l = l.i
+abbrev pub invariant-loop-prime : goal.invariant-loop-prime
+invariant-loop-prime l = Behind l.initial.left.rows l.codes l.literals l.prime-iterator.iter.rest.now l.left.rows

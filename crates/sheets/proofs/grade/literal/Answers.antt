@@ -4,18 +4,18 @@ use native.Mathlib.Omega.{arith}
 use Rattle.fuzzy.specs.Grade.{literal}
 use Rattle.sheets.proofs.grade.literal.Goals as goal
 
-pub returns-then-digit-eq0 : goal.returns-then-digit-eq0
+pub returns-in-0 : goal.returns-in-0
 unfolding literal
-returns-then-digit-eq0 c = rw c.if-digit-eq0.true
+returns-in-0 c = rw c.in-0.is
 
-pub returns-then-digit-eq1 : goal.returns-then-digit-eq1
+pub returns-in-1 : goal.returns-in-1
 unfolding literal
-returns-then-digit-eq1 c = rw c.if-digit-eq1.true
+returns-in-1 c = rw c.in-1.is
 
-pub returns-then-digit-eq2 : goal.returns-then-digit-eq2
+pub returns-in-2 : goal.returns-in-2
 unfolding literal
-returns-then-digit-eq2 c = rw c.if-digit-eq2.true
+returns-in-2 c = rw c.in-2.is
 
-pub returns : goal.returns
+pub returns-in_default : goal.returns-in_default
 unfolding literal
-returns c = let e : c.args.digit ≡ 3 = omega arith in rw e c.lesser.ensures
+returns-in_default c = let e : c.args.digit ≡ 3 = omega arith in rw e c.min.ensures

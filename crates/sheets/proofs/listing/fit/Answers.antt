@@ -1,9 +1,17 @@
--- `listing::fit` meets its contract: the count, put into what `unless` gives.
+-- `listing::fit` meets its contract: the count against the room decides.
+use mathlib.Core.Path.{refl}
+use native.Mathlib.Omega.{arith}
+use borrow.Author.Tests.{le-leb, lt-leb}
+use Rattle.sheets.proofs.Told.{unless_holds, unless_fails}
 use Rattle.sheets.proofs.Published.{no_room, enough_room}
 use Rattle.sheets.proofs.listing.fit.Goals as goal
 
-pub returns-then-answer-ne-DONE : goal.returns-then-answer-ne-DONE
-returns-then-answer-ne-DONE c = no_room _ _ _ (rw c.count-count.ensures at c.unless-answer.ensures) c.if-answer-ne-DONE.true
+pub returns-then-count-room : goal.returns-then-count-room
+returns-then-count-room c =
+    let k = c.count-count.ensures in
+    rw k (no_room _ _ _ (unless_fails 4 _ (lt-leb _ _ (rw k at c.if-count-room.true))) (λ z. omega arith))
 
 pub returns : goal.returns
-returns c = rw c.count-count.ensures (enough_room _ _ _ (rw c.count-count.ensures at c.unless-answer.ensures) c.if-answer-ne-DONE.false)
+returns c =
+    let k = c.count-count.ensures in
+    rw k (enough_room _ _ _ (unless_holds 4 _ (le-leb _ _ (rw k at c.if-count-room.false))) refl)

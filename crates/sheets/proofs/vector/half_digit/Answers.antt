@@ -4,14 +4,14 @@ use native.Mathlib.Omega.{arith}
 use Rattle.fuzzy.proofs.Reach.{reach_digit}
 use Rattle.sheets.proofs.vector.half_digit.Goals as goal
 
-pub returns-then-grade-eq0 : goal.returns-then-grade-eq0
+pub returns-in-0 : goal.returns-in-0
 unfolding reach_digit
-returns-then-grade-eq0 c = rw c.if-grade-eq0.true
+returns-in-0 c = rw c.in-0.is
 
-pub returns-then-grade-eq1 : goal.returns-then-grade-eq1
+pub returns-in-1 : goal.returns-in-1
 unfolding reach_digit
-returns-then-grade-eq1 c = rw c.if-grade-eq1.true
+returns-in-1 c = rw c.in-1.is
 
-pub returns : goal.returns
+pub returns-in_default : goal.returns-in_default
 unfolding reach_digit
-returns c = let e : c.args.grade ≡ 2 = omega arith in rw e
+returns-in_default c = let e : c.args.grade ≡ 2 = omega arith in rw e

@@ -8,19 +8,18 @@ use Rattle.sheets.proofs.vector.level.Goals as goal
 use Rattle.sheets.proofs.vector.level.Goals.{After-unpaired-whole}
 
 pub unpaired-whole-requires : goal.unpaired-whole-requires
-unpaired-whole-requires c = rw c.reached-half.ensures (reach_six c.args.n c.args.v c.requires.n_bound 1)
+unpaired-whole-requires c = rw c.reached-half.ensures (reach_six c.args.n.count c.args.v c.args.n.few 1)
 
 -- the code without its pairs is that of the literals at least 2
-whole : (c : After-unpaired-whole) → c.unpaired-whole.result ≡ reach 2 2 (vector c.args.n c.args.v)
+whole : (c : After-unpaired-whole) → c.unpaired-whole.result ≡ reach 2 2 (vector c.args.n.count c.args.v)
 whole c =
-    whole_of c.args.n c.args.v c.requires.n_bound c.reached-half.result c.unpaired-whole.result
-    c.reached-half.ensures c.unpaired-whole.ensures.0 c.unpaired-whole.ensures.1
+    whole_of c.args.n.count c.args.v c.args.n.few c.reached-half.result c.unpaired-whole.result c.reached-half.ensures
+    c.unpaired-whole.ensures.0 c.unpaired-whole.ensures.1
 
 pub returns-then-whole-phrase : goal.returns-then-whole-phrase
 returns-then-whole-phrase c =
-    whole c.before ∙ level_whole c.args.n c.args.v c.args.phrase c.requires.phrase_bound (rw (whole c.before) at c.if-whole-phrase.true)
+    whole c.before ∙ level_whole c.args.n.count c.args.v c.args.phrase c.requires (rw (whole c.before) at c.if-whole-phrase.true)
 
 pub returns : goal.returns
 returns c =
-    c.reached-half.ensures
-    ∙ level_half c.args.n c.args.v c.args.phrase c.requires.phrase_bound (rw (whole c.before) at c.if-whole-phrase.false)
+    c.reached-half.ensures ∙ level_half c.args.n.count c.args.v c.args.phrase c.requires (rw (whole c.before) at c.if-whole-phrase.false)

@@ -1,7 +1,7 @@
 -- `vector::reached` meets its contract.
-use mathlib.Core.Path.{refl, sym, ap, ◌∙◌, ◌≡◌}
-use Prim.Native.Nat.{ℕ, ◌+◌, ◌*◌, ◌<◌, ◌/◌}
-use native.Mathlib.Nat.{div-one, pow-suc}
+use mathlib.Core.Path.{◌≡◌, refl, sym, ap, ◌∙◌}
+use Prim.Native.Nat.{ℕ, suc, ◌+◌, ◌*◌, ◌<◌, ◌/◌}
+use native.Mathlib.Nat.{le_refl, div-one, pow-suc}
 use native.Mathlib.Numerals.{add-one}
 use native.Mathlib.Omega.{arith}
 use Rattle.fuzzy.proofs.Digits.{number}
@@ -9,22 +9,20 @@ use Rattle.fuzzy.proofs.Reach.{reach}
 use Rattle.fuzzy.specs.Phrase.{digits}
 use Rattle.fuzzy.specs.Vector.{vector}
 use Rattle.sheets.proofs.Level.{reach_step, reach_room, next_digit}
-use Rattle.sheets.proofs.Scan.{power_bound}
+use Rattle.sheets.proofs.Scan.{power_fits}
 use Rattle.sheets.proofs.vector.reached.Goals as goal
 
-pub loop-i-init : goal.loop-i-init
+pub loop-init : goal.loop-init
 unfolding reach vector digits number
-loop-i-init c = (omega arith, sym (div-one c.args.v), refl, refl)
+loop-init c = record { rest = sym (div-one c.args.v); place = refl; code = refl }
 
-turn : (c : goal.After-half_digit) → c.loop-i.code + c.half_digit.result * c.loop-i.place
-    ≡ reach 2 1 (vector (c.loop-i.i + 1) c.args.v)
+turn : (c : goal.After-half_digit) → c.loop.code + c.half_digit.result * c.loop.place ≡ reach 2 1 (vector (c.loop.counter + 1) c.args.v)
 turn c =
-    let l = c.loop-i in
-    reach_step l.i c.args.v l.code c.half_digit.result l.place l.rest
-    l.invariant.1 l.invariant.2 l.invariant.3 c.half_digit.ensures
+    let l = c.loop in
+    reach_step l.counter c.args.v l.code c.half_digit.result l.place l.rest l.invariant.rest l.invariant.place l.invariant.code c.half_digit.ensures
 
-room : (c : goal.After-half_digit) → reach 2 1 (vector (c.loop-i.i + 1) c.args.v) < 4096
-room c = reach_room c.loop-i.i c.args.v (omega arith)
+room : (c : goal.After-half_digit) → reach 2 1 (vector (c.loop.counter + 1) c.args.v) < 4096
+room c = reach_room c.loop.counter c.args.v (omega (arith, c.args.n.few))
 
 pub overflow_mul-code : goal.overflow_mul-code
 overflow_mul-code c = omega (arith, turn c, room c)
@@ -33,13 +31,20 @@ pub overflow_add-code : goal.overflow_add-code
 overflow_add-code c = omega (arith, turn c, room c)
 
 pub overflow_mul-place : goal.overflow_mul-place
-overflow_mul-place c = rw c.loop-i.invariant.2 (omega (arith, power_bound 4 c.loop-i.i (omega arith) (omega arith)))
+overflow_mul-place c =
+    let i = c.loop.counter in
+    omega (arith, c.loop.invariant.place, pow-suc 4 i, power_fits 4 (suc i) (le_refl 4) (omega (arith, c.args.n.few)))
 
-pub loop-i-preserved : goal.loop-i-preserved
-loop-i-preserved c =
-    let l = c.loop-i in
-    let v = c.args.v in
-    (omega arith, ap (λ (x : ℕ). x / 3) l.invariant.1 ∙ next_digit v l.i, rw (add-one, pow-suc, l.invariant.2), turn c)
+pub loop-preserved : goal.loop-preserved
+loop-preserved c =
+    let l = c.loop in
+    record {
+      rest = ap (λ (x : ℕ). x / 3) l.invariant.rest ∙ next_digit c.args.v l.counter;
+      place = rw (add-one, pow-suc, l.invariant.place);
+      code = turn c;
+    }
 
 pub returns : goal.returns
-returns c = let e : c.loop-i.i ≡ c.args.n = omega arith in c.loop-i.invariant.3 ∙ ap (λ (k : ℕ). reach 2 1 (vector k c.args.v)) e
+returns c =
+    let e : c.loop.counter ≡ c.args.n.count = omega arith in
+    c.loop.invariant.code ∙ ap (λ (k : ℕ). reach 2 1 (vector k c.args.v)) e
