@@ -10,7 +10,8 @@ pub(crate) const COMPLEMENTS: u16 = 1365;
 // All twelve literals: the last code of six variables.
 pub(crate) const PAIRS: u16 = 4095;
 
-// As many phrases as a sheet may have, the last of them unlike the others.
+// As many phrases as a sheet may have, the last of them unlike the others. The other program has one of its own: the two share no crate, and one for
+// six lines is no plainer.
 pub(crate) fn full() -> [u16; 4096]
     ensures { 4096 ≡ length result }
 {

@@ -174,7 +174,7 @@ half_reached s t g h = at (known (leb t (s - g))) (known (leb t g))
     at (inr a) (inr b) = absurd (omega (arith, nleb→lt t (s - g) (rw a tt), nleb→lt t g (rw b tt)))
 
 -- the digit worth b ^ j is one of the digits
-digit_in : (b n c j : ℕ) → j < n → Memᴰ (c / b ^ j % b) (digits b n c)
+pub digit_in : (b n c j : ℕ) → j < n → Memᴰ (c / b ^ j % b) (digits b n c)
 unfolding digits
 digit_in b zero c j l = absurd (omega arith)
 digit_in b (suc n) c j l = at (eq-or-lt_of_le {n = j} {m = n} (omega arith)) (digit_in b n c j)

@@ -36,7 +36,7 @@ module _ (n : ℕ) (ps : List ℕ) where
       r : Memᴰ p (round k) ↔ (Memᴰ p ps × (eqb (literals n p) k ≡ true))
       r = those_member (λ q. eqb (literals n q) k) ps p
 
-  rounds_member : (k p : ℕ) → Memᴰ p (walk n k ps) ↔ (Memᴰ p ps × (literals n p < k))
+  pub rounds_member : (k p : ℕ) → Memᴰ p (walk n k ps) ↔ (Memᴰ p ps × (literals n p < k))
   unfolding walk
   rounds_member zero p = (λ m. absurd (Memᴰ.not-nil m), λ h. absurd (omega arith))
   rounds_member (suc k) p = (

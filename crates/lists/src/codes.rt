@@ -1,5 +1,5 @@
 // Codes at two variables: 15 is taken, 16 refused with its index. At six variables 4,095 is taken, 4,096 refused.
-use crate::pair::Pair::{Join, Meet};
+use crate::pair::{Join, Meet, Pair};
 use crate::show;
 use std::io;
 
@@ -15,16 +15,20 @@ pub(crate) fn one_sheet(rt: &impl Print) -> io::Result<()> {
 
 // The join, the code in the first sheet or in the second.
 pub(crate) fn joins(rt: &impl Print) -> io::Result<()> {
-    show::pair(rt, Join, "code-15-first", 2, &[10, 15], &[9], 4)?;
-    show::pair(rt, Join, "code-15-second", 2, &[10], &[9, 15], 4)?;
-    show::pair(rt, Join, "code-16-first", 2, &[10, 16], &[9], 2)?;
-    show::pair(rt, Join, "code-16-second", 2, &[10], &[9, 15, 16], 2)
+    show::pair::<Join>(rt, "code-15-first", 2, &[10, 15], &[9], 4)?;
+    show::pair::<Join>(rt, "code-15-second", 2, &[10], &[9, 15], 4)?;
+    foreign::<Join>(rt)
 }
 
-// The meet, the code in the first sheet or in the second.
+// The meet in the same way.
 pub(crate) fn meets(rt: &impl Print) -> io::Result<()> {
-    show::pair(rt, Meet, "code-15-first", 2, &[15], &[8], 2)?;
-    show::pair(rt, Meet, "code-15-second", 2, &[8], &[15], 2)?;
-    show::pair(rt, Meet, "code-16-first", 2, &[10, 16], &[9], 2)?;
-    show::pair(rt, Meet, "code-16-second", 2, &[10], &[9, 15, 16], 2)
+    show::pair::<Meet>(rt, "code-15-first", 2, &[15], &[8], 2)?;
+    show::pair::<Meet>(rt, "code-15-second", 2, &[8], &[15], 2)?;
+    foreign::<Meet>(rt)
+}
+
+// The code that is refused.
+fn foreign<P: Pair>(rt: &impl Print) -> io::Result<()> {
+    show::pair::<P>(rt, "code-16-first", 2, &[10, 16], &[9], 2)?;
+    show::pair::<P>(rt, "code-16-second", 2, &[10], &[9, 15, 16], 2)
 }

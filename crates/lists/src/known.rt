@@ -1,5 +1,5 @@
 // Document 01's cases C1 and C3 to C11, and two sheets that fix the cover's walk. Each room has an entry more than is needed.
-use crate::pair::Pair::{Join, Meet};
+use crate::pair::{Join, Meet};
 use crate::show;
 use std::io;
 
@@ -25,6 +25,6 @@ pub(crate) fn walks(rt: &impl Print) -> io::Result<()> {
 pub(crate) fn operations(rt: &impl Print) -> io::Result<()> {
     show::complement(rt, "C9", 2, &[10, 9], 3)?;
     show::complement(rt, "C9-back", 2, &[3, 4], 4)?;
-    show::named(rt, Meet, "C10", 2, &[8], &[2], 2)?;
-    show::named(rt, Join, "C11", 2, &[8], &[4], 4)
+    show::named::<Meet>(rt, "C10", 2, &[8], &[2], 2)?;
+    show::named::<Join>(rt, "C11", 2, &[8], &[4], 4)
 }

@@ -20,15 +20,16 @@ pub(crate) fn one_sheet(rt: &impl Print) -> io::Result<()> {
 }
 
 // The join or the meet, the long sheet first or second, beside a sheet that leaves the long one's primes as they are.
-pub(crate) fn two_sheets(rt: &impl Print, pair: Pair, beside: &[u16]) -> io::Result<()> {
-    show::pair(rt, pair, "4096-first", 6, &full(), beside, 9)?;
-    show::pair(rt, pair, "4096-second", 6, beside, &full(), 9)?;
-    show::pair(rt, pair, "4096-both", 6, &full(), &full(), 9)?;
-    show::pair(rt, pair, "4097-first", 6, &[0; 4097], &[0], 2)?;
-    show::pair(rt, pair, "4097-second", 6, &[0], &[0; 4097], 2)
+pub(crate) fn two_sheets<P: Pair>(rt: &impl Print, beside: &[u16]) -> io::Result<()> {
+    show::pair::<P>(rt, "4096-first", 6, &full(), beside, 9)?;
+    show::pair::<P>(rt, "4096-second", 6, beside, &full(), 9)?;
+    show::pair::<P>(rt, "4096-both", 6, &full(), &full(), 9)?;
+    show::pair::<P>(rt, "4097-first", 6, &[0; 4097], &[0], 2)?;
+    show::pair::<P>(rt, "4097-second", 6, &[0], &[0; 4097], 2)
 }
 
-// As many phrases as a sheet may have, the last of them unlike the others.
+// As many phrases as a sheet may have, the last of them unlike the others. The other program has one of its own: the two share no crate, and one for
+// six lines is no plainer.
 fn full() -> [u16; 4096]
     ensures { 4096 ≡ length result }
 {

@@ -12,7 +12,7 @@ mod rooms;
 mod show;
 mod variables;
 
-use pair::Pair::{Join, Meet};
+use pair::{Join, Meet};
 use std::io;
 
 fn main(rt: HostRuntime) -> io::Result<()> {
@@ -23,18 +23,18 @@ fn main(rt: HostRuntime) -> io::Result<()> {
     rooms::empty(&rt)?;
     rooms::operations(&rt)?;
     variables::lists(&rt)?;
-    variables::pairs(&rt, Join, 4, 11)?;
-    variables::pairs(&rt, Meet, 2, 10)?;
+    variables::pairs::<Join>(&rt, 4, 11)?;
+    variables::pairs::<Meet>(&rt, 2, 10)?;
     variables::complements(&rt)?;
     lengths::one_sheet(&rt)?;
-    lengths::two_sheets(&rt, Join, &[])?;
-    lengths::two_sheets(&rt, Meet, &[0])?;
+    lengths::two_sheets::<Join>(&rt, &[])?;
+    lengths::two_sheets::<Meet>(&rt, &[0])?;
     codes::one_sheet(&rt)?;
     codes::joins(&rt)?;
     codes::meets(&rt)?;
     orders::one_sheet(&rt)?;
-    orders::two_sheets(&rt, Join)?;
-    orders::two_sheets(&rt, Meet)?;
+    orders::two_sheets::<Join>(&rt)?;
+    orders::two_sheets::<Meet>(&rt)?;
     repeats::one_sheet(&rt)?;
     repeats::two_sheets(&rt)
 }

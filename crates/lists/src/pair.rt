@@ -1,33 +1,33 @@
 // The two calls of `sheets` on two sheets.
 use sheets::Refusal;
 
-// Which of the two.
-#[derive(Clone, Copy)]
-pub(crate) enum Pair {
-    Join,
-    Meet,
+// One of them, with its name, with which the names of its cases begin.
+pub(crate) trait Pair {
+    fn name() -> &'static str;
+
+    fn call(n: usize, first: &[u16], second: &[u16], codes: &mut [u16]) -> Result<usize, Refusal>;
 }
 
-impl Pair {
-    // The call's name, with which the names of its cases begin.
-    pub(crate) fn name(self) -> &'static str {
-        match self {
-            Pair::Join => "join",
-            Pair::Meet => "meet",
-        }
+pub(crate) struct Join;
+
+impl Pair for Join {
+    fn name() -> &'static str {
+        "join"
     }
 
-    // Asks for the list of the pair.
-    pub(crate) fn call(
-        self,
-        n: usize,
-        first: &[u16],
-        second: &[u16],
-        codes: &mut [u16],
-    ) -> Result<usize, Refusal> {
-        match self {
-            Pair::Join => sheets::join(n, first, second, codes),
-            Pair::Meet => sheets::meet(n, first, second, codes),
-        }
+    fn call(n: usize, first: &[u16], second: &[u16], codes: &mut [u16]) -> Result<usize, Refusal> {
+        sheets::join(n, first, second, codes)
+    }
+}
+
+pub(crate) struct Meet;
+
+impl Pair for Meet {
+    fn name() -> &'static str {
+        "meet"
+    }
+
+    fn call(n: usize, first: &[u16], second: &[u16], codes: &mut [u16]) -> Result<usize, Refusal> {
+        sheets::meet(n, first, second, codes)
     }
 }

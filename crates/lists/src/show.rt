@@ -10,7 +10,7 @@ const CODE: u16 = 65535;
 // What a lent flag is before the call: no flag.
 const FLAG: u8 = 255;
 
-// The most entries that a case lends.
+// The most entries that a case lends: a room is a u8, so no slice goes past the end.
 const MOST: usize = 255;
 
 // Asks for the sheet's list with its cover, and lends as much room for codes as for flags.
@@ -46,23 +46,21 @@ pub(crate) fn list_into(
 }
 
 // Asks for the join or the meet, whose name begins the case's.
-pub(crate) fn pair(
+pub(crate) fn pair<P: Pair>(
     rt: &impl Print,
-    pair: Pair,
     case: &str,
     n: usize,
     first: &[u16],
     second: &[u16],
     room: u8,
 ) -> io::Result<()> {
-    print!(rt; "{}-", pair.name())?;
-    named(rt, pair, case, n, first, second, room)
+    print!(rt; "{}-", P::name())?;
+    named::<P>(rt, case, n, first, second, room)
 }
 
 // The same under a name of its own.
-pub(crate) fn named(
+pub(crate) fn named<P: Pair>(
     rt: &impl Print,
-    pair: Pair,
     name: &str,
     n: usize,
     first: &[u16],
@@ -71,7 +69,7 @@ pub(crate) fn named(
 ) -> io::Result<()> {
     let mut codes = [CODE; MOST];
     let codes = &mut codes[..room as usize];
-    let listed = pair.call(n, first, second, codes);
+    let listed = P::call(n, first, second, codes);
     plain(rt, name, listed, codes)
 }
 
@@ -110,7 +108,7 @@ fn answer(rt: &impl Print, name: &str, listed: Result<usize, Refusal>) -> io::Re
     Ok(listed.unwrap_or(0))
 }
 
-// Prints all that was lent, with a bar before the first that the call had no entry for.
+// Prints all that was lent, with a bar before the first that the call had no entry for. The count goes beside it, since what was lent is printed whole.
 fn lent<T: Display>(rt: &impl Print, lent: &[T], count: usize) -> io::Result<()> {
     for (i, x) in lent.iter().enumerate() {
         let bar = if i == count { " |" } else { "" };

@@ -13,12 +13,12 @@ pub(crate) fn lists(rt: &impl Print) -> io::Result<()> {
 }
 
 // The join or the meet, with rooms of an entry more than the lists of one variable and of six variables need.
-pub(crate) fn pairs(rt: &impl Print, pair: Pair, one: u8, six: u8) -> io::Result<()> {
-    show::pair(rt, pair, "n-0", 0, &[0], &[0], 2)?;
-    show::pair(rt, pair, "n-1", 1, &[1], &[2], one)?;
-    show::pair(rt, pair, "n-6", 6, &[321, 3082], &[1300, 2052], six)?;
-    show::pair(rt, pair, "n-7", 7, &[0], &[0], 2)?;
-    show::pair(rt, pair, "n-large", usize::MAX, &[0], &[0], 2)
+pub(crate) fn pairs<P: Pair>(rt: &impl Print, one: u8, six: u8) -> io::Result<()> {
+    show::pair::<P>(rt, "n-0", 0, &[0], &[0], 2)?;
+    show::pair::<P>(rt, "n-1", 1, &[1], &[2], one)?;
+    show::pair::<P>(rt, "n-6", 6, &[321, 3082], &[1300, 2052], six)?;
+    show::pair::<P>(rt, "n-7", 7, &[0], &[0], 2)?;
+    show::pair::<P>(rt, "n-large", usize::MAX, &[0], &[0], 2)
 }
 
 // The complement.

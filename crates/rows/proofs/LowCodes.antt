@@ -1,6 +1,6 @@
 -- The codes of n variables are those of the first rows, and of the first row those below 4 ^ n.
 -- So a loop that clears the rows past them, after a mask on the first, leaves just the marked codes of n variables.
-use mathlib.Core.Path.{◌≡◌, refl, ◌∙◌}
+use mathlib.Core.Path.{◌≡◌, refl, sym, ◌∙◌}
 use mathlib.Core.Logic.{◌⊎◌, inl, inr, ◌↔◌}
 use mathlib.Core.Bool.{true}
 use mathlib.Core.List.{List}
@@ -8,16 +8,15 @@ use Prim.Native.Nat.{ℕ, ◌+◌, ◌*◌, ◌/◌, ◌%◌, ◌^◌, ◌≤◌
 use native.Mathlib.Nat.{eq-zero-or-pos, eq-or-lt_of_le, lt_of_lt_of_le, pow-le-pow_right}
 use native.Mathlib.Decide.{dec_lt}
 use native.Mathlib.Omega.{arith}
-use borrow.Author.Tests.{lt-ltb, ltb-true}
+use Rattle.std.proofs.lemmas.Bool.{agree_below, agree_below_at, lt-ltb, ltb-true}
 use lib.Bits.{bit_and}
 use lib.Dec.{eqb, ltb}
 use lib.Pow.{pow_pos}
-use lib.ListN.{length, get_or, set, length-set}
+use lib.ListN.{length, get_or, set}
 use lib.Seq.{get_or-set_same, get_or-set_other}
 use Rattle.fuzzy.specs.Phrase.{has}
 use Rattle.fuzzy.proofs.Literals.{has_lt, has_and, has_none}
 use Rattle.fuzzy.proofs.Search.{eqb_eq, eq-eqb}
-use Rattle.rows.proofs.Every.{every, every_at, agree, agree_says}
 use Rattle.rows.specs.Square.{square, Marked}
 
 -- row x has just its codes below w
@@ -25,30 +24,28 @@ abbrev pub Low : ℕ → ℕ → Type 0
 Low x w = (k : ℕ) → k < 64 → (has x k ≡ 1) ↔ (k < w)
 
 -- that is a test of 64 codes
-low : (x w : ℕ) → every (λ k. agree (eqb (has x k) 1) (ltb k w)) 64 ≡ true → Low x w
+low : (x w : ℕ) → agree_below (λ k. eqb (has x k) 1) (λ k. ltb k w) 64 ≡ true → Low x w
 low x w e k l =
-    let same = agree_says (eqb (has x k) 1) (ltb k w) (every_at (λ k. agree (eqb (has x k) 1) (ltb k w)) 64 e k l) in (
-      λ h. ltb-true k w (same.0 (eq-eqb (has x k) 1 h)),
-      λ h. eqb_eq (has x k) 1 (same.1 (lt-ltb k w h)),
-    )
+    let same = agree_below_at (λ k. eqb (has x k) 1) (λ k. ltb k w) 64 k e l in
+    (λ h. ltb-true k w (sym same ∙ eq-eqb (has x k) 1 h), λ h. eqb_eq (has x k) 1 (same ∙ lt-ltb k w h))
 
 -- the codes of no variable in a row
 pub low_0 : (n : ℕ) → n ≡ 0 → Low 1 (4 ^ n)
-unfolding every agree has
+unfolding has
 low_0 n e = rw e (low 1 1 refl)
 
 -- of one variable
 pub low_1 : (n : ℕ) → n ≡ 1 → Low 0xf (4 ^ n)
-unfolding every agree has
+unfolding has
 low_1 n e = rw e (low 0xf 4 refl)
 
 -- of two variables
 pub low_2 : (n : ℕ) → n ≡ 2 → Low 0xffff (4 ^ n)
-unfolding every agree has
+unfolding has
 low_2 n e = rw e (low 0xffff 16 refl)
 
 all_low : Low 0xffff_ffff_ffff_ffff 64
-unfolding every agree has
+unfolding has
 all_low = low 0xffff_ffff_ffff_ffff 64 refl
 
 -- of three or more
@@ -73,16 +70,15 @@ count_6 n h =
 
 -- the rows of r before e are those of m, and those from e to i are empty
 abbrev pub Cleared : ℕ → List ℕ → ℕ → List ℕ → Type 0
-Cleared e m i r = (length r ≡ 64) × ((j : ℕ) → j < e → get_or r j 0 ≡ get_or m j 0) × ((j : ℕ) → e ≤ j → j < i → get_or r j 0 ≡ 0)
+Cleared e m i r = ((j : ℕ) → j < e → get_or r j 0 ≡ get_or m j 0) × ((j : ℕ) → e ≤ j → j < i → get_or r j 0 ≡ 0)
 
 -- at row e nothing is to be cleared yet
-pub clear_none : (e : ℕ) (m : List ℕ) → length m ≡ 64 → Cleared e m e m
-clear_none e m rows = (rows, λ j l. refl, λ j a b. absurd (omega arith))
+pub clear_none : (e : ℕ) (m : List ℕ) → Cleared e m e m
+clear_none e m = (λ j l. refl, λ j a b. absurd (omega arith))
 
 -- one row more
-pub clear_more : (e : ℕ) (m : List ℕ) (i : ℕ) (r : List ℕ) → e ≤ i → i < 64 → Cleared e m i r → Cleared e m (i + 1) (set r i 0)
-clear_more e m i r late l (rows, kept, none) = (
-  simp length-set rows,
+pub clear_more : (e : ℕ) (m : List ℕ) (i : ℕ) (r : List ℕ) → e ≤ i → i < 64 → length r ≡ 64 → Cleared e m i r → Cleared e m (i + 1) (set r i 0)
+clear_more e m i r late l rows (kept, none) = (
   λ j lj. get_or-set_other r i j 0 0 (λ s. omega arith) ∙ kept j lj,
   λ j a b. at j a (eq-or-lt_of_le {n = j} {m = i} (omega arith)),
 )
@@ -102,7 +98,7 @@ module _ (m : List ℕ) (w x e : ℕ) (rows : length m ≡ 64) (first : Low x w)
   module _ (i : ℕ) (r : List ℕ) (all : 64 ≤ i) (h : Cleared e (masked m x) i r) where
     first_has : (k : ℕ) → k < 64 → (has (get_or r 0 0) k ≡ 1) ↔ ((has (get_or m 0 0) k ≡ 1) × (k < w))
     first_has k l =
-        let row = h.1 0 count.0 ∙ get_or-set_same m 0 (bit_and (get_or m 0 0) x) 0 (omega arith) in
+        let row = h.0 0 count.0 ∙ get_or-set_same m 0 (bit_and (get_or m 0 0) x) 0 (omega arith) in
         let two = min_one (has (get_or m 0 0) k) (has x k) (has_lt (get_or m 0 0) k) (has_lt x k) in
         rw (row, has_and (get_or m 0 0) x k) (λ y. ((two.0 y).0, (first k l).0 (two.0 y).1), λ y. two.1 (y.0, (first k l).1 y.1))
 
@@ -111,9 +107,9 @@ module _ (m : List ℕ) (w x e : ℕ) (rows : length m ≡ 64) (first : Low x w)
       where
         at : Dec (j < e) → (has (get_or r j 0) k ≡ 1) ↔ ((has (get_or m j 0) k ≡ 1) × (j * 64 + k < w))
         at (yes d) =
-            rw (h.1 j d ∙ get_or-set_other m 0 j (bit_and (get_or m 0 0) x) 0 (λ z. omega arith)) (λ y. (y, (count.2 j k p lj lk).1 d), λ y. y.0)
+            rw (h.0 j d ∙ get_or-set_other m 0 j (bit_and (get_or m 0 0) x) 0 (λ z. omega arith)) (λ y. (y, (count.2 j k p lj lk).1 d), λ y. y.0)
         at (no d) =
-            rw (h.2 j (omega arith) (omega arith), has_none 0 k (pow_pos k)) (λ y. absurd (omega arith), λ y. absurd (d ((count.2 j k p lj lk).0 y.1)))
+            rw (h.1 j (omega arith) (omega arith), has_none 0 k (pow_pos k)) (λ y. absurd (omega arith), λ y. absurd (d ((count.2 j k p lj lk).0 y.1)))
 
     -- with the first row masked and the rows from e on cleared, just the marked codes below w are marked
     pub cut_rows : (c : ℕ) → c < 4096 → Marked r c ↔ (Marked m c × (c < w))

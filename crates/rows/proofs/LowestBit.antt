@@ -1,5 +1,5 @@
 -- The first code that a row marks is that of its lowest one, and clearing that one leaves the others; so a loop writes them one after the other.
--- `x & (x - 1)` leaves out the literal at the trailing zeros' count (`lowest`), which is the first that the choice finds (`select_first`).
+-- `x & (x - 1)` leaves out the literal at the trailing zeros' count (`cleared`), which is the first that the choice finds (`select_first`).
 use mathlib.Core.Path.{◌≡◌, refl, sym, ap, ◌∙◌}
 use mathlib.Core.Bool.{Bool, true, false}
 use mathlib.Core.Logic.{◌⊎◌, inl, inr, ◌≢◌}
@@ -14,41 +14,31 @@ use lib.Count.{ones, count_trailing_zeros, under}
 use lib.Dec.{eqb}
 use lib.ListN.{length, set}
 use lib.Seq.{sets}
+use mir.Syntax.{w64}
+use Rattle.std.proofs.lemmas.Nat.Bits.{bit_at-trailing_zeros}
 use Rattle.fuzzy.specs.Phrase.{has, less}
 use Rattle.fuzzy.specs.Primes.{select}
-use Rattle.fuzzy.proofs.Literals.{has_zero, has_next, less_has, less_others}
+use Rattle.fuzzy.proofs.Literals.{less_has, less_others}
 use Rattle.rows.proofs.Selected.{select_run, row_ones}
 use Rattle.rows.specs.Read.{row_marks}
 
--- z is the place of the lowest one of x, below d
-abbrev pub Lowest : ℕ → ℕ → ℕ → Type 0
-Lowest d x z = (z < d) × (has x z ≡ 1) × ((j : ℕ) → j < z → has x j ≡ 0) × (bit_and x (x - 1) ≡ less x z)
-
--- the trailing zeros' count is the place of the lowest one
-pub lowest : (d x : ℕ) → 0 < x → x < 2 ^ d → Lowest d x (count_trailing_zeros d x)
+-- `x & (x - 1)` is x without its lowest one
+cleared : (d x : ℕ) → 0 < x → x < 2 ^ d → bit_and x (x - 1) ≡ less x (count_trailing_zeros d x)
 unfolding count_trailing_zeros
-lowest zero x p l = absurd (omega arith)
-lowest (suc d) x p l = at (x % 2) refl (λ a. lowest d (x / 2) (omega arith) (omega arith))
+cleared zero x p l = absurd (omega arith)
+cleared (suc d) x p l = at (x % 2) refl (λ a. cleared d (x / 2) (omega arith) (omega arith))
   where
-    at : (r : ℕ) → x % 2 ≡ r → (x % 2 ≡ 0 → Lowest d (x / 2) (count_trailing_zeros d (x / 2))) → Lowest (suc d) x (under r (count_trailing_zeros d (x / 2)))
+    at : (r : ℕ) → x % 2 ≡ r → (x % 2 ≡ 0 → bit_and (x / 2) (x / 2 - 1) ≡ less (x / 2) (count_trailing_zeros d (x / 2)))
+        → bit_and x (x - 1) ≡ less x (under r (count_trailing_zeros d (x / 2)))
     at zero e rest =
-        let h = rest e in
         let z = count_trailing_zeros d (x / 2) in
         let half : (x - 1) / 2 ≡ x / 2 - 1 = omega arith in
-        let cleared : (x / 2 - 2 ^ z) * 2 + min 0 ((x - 1) % 2) ≡ x - 2 ^ suc z = omega arith in (
-          omega (arith, h.0),
-          has_next x z ∙ h.1,
-          below z h.2,
-          and_step x (x - 1) ∙ rw (half, h.3, e) cleared,
-        )
-      where
-        below : (z : ℕ) → ((j : ℕ) → j < z → has (x / 2) j ≡ 0) → (j : ℕ) → j < suc z → has x j ≡ 0
-        below z h zero lj = has_zero x ∙ e
-        below z h (suc j) lj = has_next x j ∙ h j (omega arith)
+        let twice : (x / 2 - 2 ^ z) * 2 + min 0 ((x - 1) % 2) ≡ x - 2 ^ suc z = omega arith in
+        and_step x (x - 1) ∙ rw (half, rest e, e) twice
     at (suc zero) e rest =
         let half : (x - 1) / 2 ≡ x / 2 = omega arith in
         let even : (x - 1) % 2 ≡ 0 = omega arith in
-        (omega arith, has_zero x ∙ e, λ j lj. absurd (omega arith), and_step x (x - 1) ∙ rw (half, even, and_self (x / 2)) (omega arith))
+        and_step x (x - 1) ∙ rw (half, even, and_self (x / 2)) (omega arith)
     at (suc (suc r)) e rest = absurd (omega arith)
 
 -- a choice whose first is z is z and then what a test chooses that says the same past z, and no up to it
@@ -70,6 +60,10 @@ module _ (x base : ℕ) (some_one : 0 < x) (fits : x < 2 ^ 64) where
   z : ℕ
   z = count_trailing_zeros 64 x
 
+  low : (z < 64) × (has x z ≡ 1) × ((j : ℕ) → j < z → has x j ≡ 0)
+  unfolding has z
+  low = bit_at-trailing_zeros w64 x some_one fits
+
   -- the first code that a row marks, and the others
   pub row_first : row_marks x base ≡ (base + count_trailing_zeros 64 x) ∷ row_marks (bit_and x (x - 1)) base
   unfolding row_marks z
@@ -81,14 +75,11 @@ module _ (x base : ℕ) (some_one : 0 < x) (fits : x < 2 ^ 64) where
       (λ j a b. ap (λ (y : ℕ). eqb y 1) (up_to (j - base) (ℕ_discrete (j - base) z) (omega arith)))
       (λ j a. ap (λ (y : ℕ). eqb y 1) (sym (other (j - base) (λ e. omega arith))))
     where
-      low : Lowest 64 x z
-      low = lowest 64 x some_one fits
-
       other : (j : ℕ) → j ≢ z → has (bit_and x (x - 1)) j ≡ has x j
-      other j d = rw low.3 (less_others x z j low.1 d)
+      other j d = rw (cleared 64 x some_one fits) (less_others x z j low.1 d)
 
       up_to : (j : ℕ) → Dec (j ≡ z) → j ≤ z → has (bit_and x (x - 1)) j ≡ 0
-      up_to j (yes e) l = rw (low.3, e) (less_has x z low.1)
+      up_to j (yes e) l = rw (cleared 64 x some_one fits, e) (less_has x z low.1)
       up_to j (no d) l = other j d ∙ low.2 j (omega arith)
 
   -- one turn of writing them

@@ -5,15 +5,15 @@ use mathlib.Core.Logic.{◌⊎◌, inl, inr, ◌↔◌, ◌≢◌, ⊎_elim}
 use mathlib.Core.List.Memᴰ
 use mathlib.Core.List.{List, [], ◌∷◌, ◌++◌, Memᴰ}
 use Prim.Native.Nat.{ℕ, ◌+◌, ◌*◌, ◌/◌, ◌%◌, ◌^◌, ◌≤◌, ◌<◌}
-use native.Mathlib.Nat.{mod-eq_of_lt, one-mul}
 use native.Mathlib.Decide.{ℕ_discrete}
 use native.Mathlib.Numerals.{add-one}
 use native.Mathlib.Omega.{arith}
 use lib.Bits.{bit_or}
-use lib.Pow.{pow-lt, pow_pos}
+use lib.Pow.{pow_pos}
 use lib.ListN.{length, get_or, set, take, replicate, get_or-replicate, length-set}
 use lib.Seq.{get_or-set_same, get_or-set_other, take-suc, take-length}
 use Rattle.fuzzy.proofs.Literals.{has_lt, has_or, has_itself, has_one, has_none}
+use Rattle.std.proofs.lemmas.Nat.{one_shl}
 use Rattle.rows.specs.Square.{square, Marked}
 use Rattle.rows.specs.Pass.{OfSheet}
 
@@ -24,10 +24,6 @@ Added m code r = (c : ℕ) → c < 4096 → Marked r c ↔ (Marked m c ⊎ (c �
 -- the marks with a code's bit set
 abbrev pub plus : List ℕ → ℕ → List ℕ
 plus m code = set m (code / 64) (bit_or (get_or m (code / 64) 0) (1 * 2 ^ (code % 64) % 2 ^ 64))
-
--- the bit of a place of a row
-one_bit : (k : ℕ) → k < 64 → 1 * 2 ^ k % 2 ^ 64 ≡ 2 ^ k
-one_bit k l = rw (one-mul (2 ^ k)) (mod-eq_of_lt (pow-lt l))
 
 module _ (m : List ℕ) (code : ℕ) (rows : length m ≡ 64) (six : code < 4096) where
   abbrev row : ℕ
@@ -41,7 +37,7 @@ module _ (m : List ℕ) (code : ℕ) (rows : length m ≡ 64) (six : code < 4096
   plus_same =
       rw (
         get_or-set_same m (code / 64) new 0 (omega arith),
-        one_bit (code % 64) (omega arith),
+        one_shl (code % 64) 64 (omega arith),
         has_or row (2 ^ (code % 64)) (code % 64),
         has_itself (code % 64),
       )
@@ -56,7 +52,7 @@ module _ (m : List ℕ) (code : ℕ) (rows : length m ≡ 64) (six : code < 4096
           rw (
             e,
             get_or-set_same m (code / 64) new 0 (omega arith),
-            one_bit (code % 64) (omega arith),
+            one_shl (code % 64) 64 (omega arith),
             has_or row (2 ^ (code % 64)) (c % 64),
             has_one (code % 64) (c % 64) (λ f. d (omega arith)),
           )
@@ -75,16 +71,19 @@ module _ (m : List ℕ) (code : ℕ) (rows : length m ≡ 64) (six : code < 4096
       )
 
 -- a code of 4,096 or more changes nothing
-pub unadded : (m : List ℕ) (code : ℕ) → 4096 ≤ code → Added m code m
+unadded : (m : List ℕ) (code : ℕ) → 4096 ≤ code → Added m code m
 unadded m code h c l = (λ x. inl x, ⊎_elim (λ (x : Marked m c). x) (λ (e : c ≡ code). absurd (omega arith)))
 
--- so it is of whatever is the marks with the bit set
-pub added_as : (m r : List ℕ) (code : ℕ) → length m ≡ 64 → code / 64 < 64 → r ≡ plus m code → (length r ≡ 64) × Added m code r
-added_as m r code rows l e = rw e (simp length-set rows, added m code rows (omega arith))
+-- so it is of whatever is the marks with the bit set, the row taken below 64
+pub added_as : (m r : List ℕ) (code : ℕ) → length m ≡ 64 → code < 4096
+    → r ≡ set m (code / 64 % 64) (bit_or (get_or m (code / 64 % 64) 0) (1 * 2 ^ (code % 64) % 2 ^ 64)) → (length r ≡ 64) × Added m code r
+added_as m r code rows six e =
+    let row : code / 64 % 64 ≡ code / 64 = omega arith in
+    rw (e, row) (simp length-set rows, added m code rows six)
 
 -- and of whatever is the marks unchanged
-pub unadded_as : (m r : List ℕ) (code : ℕ) → length m ≡ 64 → 64 ≤ code / 64 → r ≡ m → (length r ≡ 64) × Added m code r
-unadded_as m r code rows l e = rw e (rows, unadded m code (omega arith))
+pub unadded_as : (m r : List ℕ) (code : ℕ) → length m ≡ 64 → 4096 ≤ code → r ≡ m → (length r ≡ 64) × Added m code r
+unadded_as m r code rows l e = rw e (rows, unadded m code l)
 
 -- one code more of a sheet
 pub sheet_more : (F m r : List ℕ) (i : ℕ) → i < length F → OfSheet (take i F) m → Added m (get_or F i 0) r → OfSheet (take (i + 1) F) r

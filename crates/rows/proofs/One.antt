@@ -6,29 +6,29 @@
 use borrow.Author.Tests.{eqb-false, ne_eqb, not-true}
 use mathlib.Core.Path.{◌≡◌, sym, ap, ◌∙◌}
 use mathlib.Core.Bool.{true, not}
-use mathlib.Core.Logic.{◌⊎◌, inl, inr, ◌≢◌, ◌↔◌}
+use mathlib.Core.Logic.{◌≢◌, ◌↔◌}
 use mathlib.Core.List.{List}
 use Prim.Native.Nat.{ℕ, suc, ◌+◌, ◌-◌, ◌*◌, ◌/◌, ◌%◌, ◌^◌, ◌≤◌, ◌<◌, min}
 use native.Mathlib.Nat.{mod-lt}
 use native.Mathlib.Decide.{ℕ_discrete, dec_le}
 use native.Mathlib.Omega.{arith}
-use lib.Bits.{bit_and, bit_or, and_mask, and_le_l, and_le_r}
+use lib.Bits.{bit_and, bit_or, and_le_l, and_le_r}
 use lib.Dec.{eqb}
+use mir.Syntax.{w64}
 use lib.ListN.{length, get_or, set}
-use lib.Pow.{pow_mono, pow_pos}
+use lib.Pow.{pow_pos}
 use lib.Seq.{get_or-set_same, get_or-set_other}
 use Rattle.fuzzy.specs.Phrase.{has, Subsumes}
 use Rattle.fuzzy.proofs.Literals.{has_lt, has_or, has_and, has_none, has_one, has_itself, has_high}
-use Rattle.fuzzy.proofs.Subsumes.{subsumes_and, subsumes_antisym, subsumes_empty, subsumes_or_lacks}
+use Rattle.fuzzy.proofs.Subsumes.{subsumes_and}
+use Rattle.std.specs.Int.{trailing_zeros}
+use Rattle.std.proofs.lemmas.Nat.{one_shl}
+use Rattle.std.proofs.lemmas.Nat.Bits.{bit_at-trailing_zeros, shr_and_one}
 use Rattle.rows.specs.Square.{square, Marked}
 use Rattle.rows.specs.Stage.{raise, closed_up}
 use Rattle.rows.specs.Pass.{Removed, Held, Covered}
 use Rattle.rows.proofs.Rows.{has_bit, has_row}
 use Rattle.rows.proofs.Stage.{closed_up_lem}
-
--- 1 shifted by less than 64 is a power of two
-one_shifted : (k : ℕ) → k < 64 → 1 * 2 ^ k % 18446744073709551616 ≡ 2 ^ k
-one_shifted k l = omega (arith, pow_mono {i = k} {j = 63} (omega arith))
 
 -- a number is tested for being none
 tested : (x : ℕ) → (not (eqb x 0) ≡ true) ↔ (x ≢ 0)
@@ -43,7 +43,7 @@ module _ (m : List ℕ) (code : ℕ) where
 
     -- a bit of the code's own row
     taken_has : (b : ℕ) → b < 64 → has (get_or taken (code / 64) 0) b ≡ min (has (get_or m (code / 64) 0) b) (1 - has (2 ^ (code % 64)) b)
-    taken_has b lb = rw (get_or-set_same m (code / 64) v 0 (omega arith), ← one_shifted (code % 64) (mod-lt code (omega arith))) (out b lb)
+    taken_has b lb = rw (get_or-set_same m (code / 64) v 0 (omega arith), ← one_shl (code % 64) 64 (mod-lt code (omega arith))) (out b lb)
 
     taken_itself : square taken code ≡ 0
     unfolding square
@@ -76,7 +76,7 @@ module _ (m : List ℕ) (code : ℕ) where
   held_says l = (λ t. (l, omega (arith, e, test.0 t)), λ (k, o). test.1 (λ z. absurd (omega (arith, e))))
     where
       e : bit_and (get_or m (code / 64) 0 / 2 ^ (code % 64)) 1 ≡ get_or m (code / 64) 0 / 2 ^ (code % 64) % 2
-      e = and_mask (get_or m (code / 64) 0 / 2 ^ (code % 64)) 1
+      e = shr_and_one (get_or m (code / 64) 0) (code % 64)
 
       test : (not (eqb (bit_and (get_or m (code / 64) 0 / 2 ^ (code % 64)) 1) 0) ≡ true) ↔ (bit_and (get_or m (code / 64) 0 / 2 ^ (code % 64)) 1 ≢ 0)
       test = tested (bit_and (get_or m (code / 64) 0 / 2 ^ (code % 64)) 1)
@@ -165,11 +165,8 @@ module _ (m : List ℕ) (high : ℕ) where
 
 -- a row that is not empty has a bit
 some_bit : (x : ℕ) → x < 18446744073709551616 → x ≢ 0 → (b : ℕ) × (b < 64) × (has x b ≡ 1)
-some_bit x l d = at (subsumes_or_lacks 32 0 x)
-  where
-    at : Subsumes 32 0 x ⊎ ((k : ℕ) × (k < 64) × (has 0 k < has x k)) → (b : ℕ) × (b < 64) × (has x b ≡ 1)
-    at (inl s) = absurd (d (sym (subsumes_antisym 32 0 x (omega arith) l s (subsumes_empty 32 x))))
-    at (inr (k, lk, h)) = (k, lk, omega (arith, has_lt x k))
+unfolding has
+some_bit x l d = let h = bit_at-trailing_zeros w64 x (omega arith) l in (trailing_zeros w64 x, h.0, h.1)
 
 -- once all rows are met, a bit that was found and has all of the code's bit says that the code is covered
 pub covered_says : (m : List ℕ) (code found i up : ℕ) → 64 ≤ i → up < 18446744073709551616 → Gathered m (code / 64) found i
@@ -183,7 +180,7 @@ covered_says m code found i up past fits g above = (
   where
     mask : (b : ℕ) → b < 64 → (has up b ≡ 1) ↔ Subsumes 6 b (code % 64)
     mask b lb =
-        rw (above b lb, one_shifted (code % 64) (mod-lt code (omega arith))) (bits_above (code % 64) b (mod-lt code (omega arith)) lb)
+        rw (above b lb, one_shl (code % 64) 64 (mod-lt code (omega arith))) (bits_above (code % 64) b (mod-lt code (omega arith)) lb)
 
     there : (b : ℕ) → b < 64 → has (bit_and found up) b ≡ 1 → (code < 4096) × ((q : ℕ) × Marked m q × Subsumes 6 q code)
     there b lb e =

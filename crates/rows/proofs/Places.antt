@@ -11,28 +11,20 @@ use native.Mathlib.Nat.{min-zero, mul_assoc}
 use native.Mathlib.Decide.{dec_le}
 use native.Mathlib.Omega.{arith}
 use borrow.Author.Tests.{leb-true}
-use lib.Bits.{bit_and, bit_xor, differ, shifted_even}
+use lib.Bits.{bit_and, bit_xor, shifted_even}
 use lib.Dec.{eqb, leb}
 use lib.ListN.{get_or}
-use lib.Pow.{shr-shr, shl-shr, pow-add}
+use lib.Pow.{shl-shr, pow-add}
 use Rattle.fuzzy.specs.Phrase.{digits, has}
 use Rattle.fuzzy.proofs.Digits.{number}
-use Rattle.fuzzy.proofs.Literals.{has_lt, has_and, has_xor, has_mod}
+use Rattle.fuzzy.proofs.Literals.{has_lt, has_and, has_mod}
 use Rattle.fuzzy.proofs.Search.{both_first, both_second, eqb_eq}
 use Rattle.fuzzy.proofs.Within.{swap, exchange, exchange_lt}
-use Rattle.rows.proofs.Every.{every, every_at}
+use Rattle.std.proofs.lemmas.Bool.{agree_below, agree_below_at}
+use Rattle.rows.proofs.Shift.{has_shr, has_shl, xor_has}
 use Rattle.rows.specs.Square.{square, Marked}
 
--- a literal of a code moved down by s
-has_shr : (x s k : ℕ) → has (x / 2 ^ s) k ≡ has x (s + k)
-unfolding has
-has_shr x s k = rw (shr-shr x s k)
-
--- and of a code moved up by s
-has_shl : (x s k : ℕ) → has (x * 2 ^ s) (s + k) ≡ has x k
-unfolding has
-has_shl x s k = rw (← shr-shr (x * 2 ^ s) s k, shl-shr x s)
-
+-- a row shifted up has no marks below the shift
 has_shl_low : (x s k : ℕ) → k < s → has (x * 2 ^ s) k ≡ 0
 unfolding has
 has_shl_low x s k l =
@@ -40,32 +32,12 @@ has_shl_low x s k l =
     rw (e, pow-add 2 (suc (s - suc k)) k, ← mul_assoc x (2 ^ suc (s - suc k)) (2 ^ k), shl-shr (x * 2 ^ suc (s - suc k)) k)
     (shifted_even x (s - suc k))
 
-differ_zero : (x : ℕ) → differ x 0 ≡ x
-differ_zero zero = refl
-differ_zero (suc x) = refl
-
--- differing twice from a bit gives the other one back
-differ_back : (x y : ℕ) → x < 2 → y < 2 → (differ x (min (differ x y) 1) ≡ y) × (differ x (min (differ y x) 1) ≡ y)
-differ_back zero zero a b = (refl, refl)
-differ_back zero (suc zero) a b = (refl, refl)
-differ_back (suc zero) zero a b = (refl, refl)
-differ_back (suc zero) (suc zero) a b = (refl, refl)
-differ_back zero (suc (suc y)) a b = absurd (omega arith)
-differ_back (suc zero) (suc (suc y)) a b = absurd (omega arith)
-differ_back (suc (suc x)) y a b = absurd (omega arith)
-
 -- of a bit, the one s higher and the one s lower, the masks choose one
 choose : (f : ℕ → ℕ) → ((k : ℕ) → f k < 2) → (s k up down : ℕ) → up + down ≤ 1
-    → differ (differ (f k) (min (differ (f (s + k)) (f k)) up)) (min (differ (f k) (f (k - s))) down) ≡ f (k + s * up - s * down)
-choose f lt s k zero zero l =
-    let e : k ≡ k + s * 0 - s * 0 = omega arith in
-    rw (min-zero (differ (f (s + k)) (f k)), min-zero (differ (f k) (f (k - s))), differ_zero (f k), differ_zero (f k)) (ap f e)
-choose f lt s k (suc zero) zero l =
-    let e : s + k ≡ k + s * 1 - s * 0 = omega arith in
-    rw (min-zero (differ (f k) (f (k - s))), (differ_back (f k) (f (s + k)) (lt k) (lt (s + k))).1, differ_zero (f (s + k))) (ap f e)
-choose f lt s k zero (suc zero) l =
-    let e : k - s ≡ k + s * 0 - s * 1 = omega arith in
-    rw (min-zero (differ (f (s + k)) (f k)), differ_zero (f k), (differ_back (f k) (f (k - s)) (lt k) (lt (k - s))).0) (ap f e)
+    → ((f k + min ((f (s + k) + f k) % 2) up) % 2 + min ((f k + f (k - s)) % 2) down) % 2 ≡ f (k + s * up - s * down)
+choose f lt s k zero zero l = let e : k ≡ k + s * 0 - s * 0 = omega arith in omega (arith, ap f e, lt k)
+choose f lt s k (suc zero) zero l = let e : s + k ≡ k + s * 1 - s * 0 = omega arith in omega (arith, ap f e, lt k, lt (s + k))
+choose f lt s k zero (suc zero) l = let e : k - s ≡ k + s * 0 - s * 1 = omega arith in omega (arith, ap f e, lt k, lt (k - s))
 choose f lt s k (suc (suc up)) zero l = absurd (omega arith)
 choose f lt s k zero (suc (suc down)) l = absurd (omega arith)
 choose f lt s k (suc up) (suc down) l = absurd (omega arith)
@@ -83,28 +55,25 @@ abbrev moved : ℕ → ℕ → ℕ → ℕ
 moved s mask k = k + s * has mask k - s * has (mask * 2 ^ s) k
 
 module _ (s mask row : ℕ) where
-  odd_has : (k : ℕ) → has (odd s mask row) k ≡ min (differ (has row (s + k)) (has row k)) (has mask k)
-  odd_has k = rw (has_and (bit_xor (row / 2 ^ s) row) mask k, has_xor (row / 2 ^ s) row k, has_shr row s k)
+  odd_has : (k : ℕ) → has (odd s mask row) k ≡ min ((has row (s + k) + has row k) % 2) (has mask k)
+  odd_has k = rw (has_and (bit_xor (row / 2 ^ s) row) mask k, xor_has (row / 2 ^ s) row k, has_shr row s k)
 
-  odd_up : (k : ℕ) → has (odd s mask row * 2 ^ s) k ≡ min (differ (has row k) (has row (k - s))) (has (mask * 2 ^ s) k)
+  odd_up : (k : ℕ) → has (odd s mask row * 2 ^ s) k ≡ min ((has row k + has row (k - s)) % 2) (has (mask * 2 ^ s) k)
   odd_up k = at (dec_le s k)
     where
-      late : (a : ℕ) → has (odd s mask row * 2 ^ s) (s + a)
-          ≡ min (differ (has row (s + a)) (has row (s + a - s))) (has (mask * 2 ^ s) (s + a))
+      late : (a : ℕ) → has (odd s mask row * 2 ^ s) (s + a) ≡ min ((has row (s + a) + has row (s + a - s)) % 2) (has (mask * 2 ^ s) (s + a))
       late a = let e : s + a - s ≡ a = omega arith in rw (e, has_shl (odd s mask row) s a, has_shl mask s a) (odd_has a)
 
-      at : Dec (s ≤ k) → has (odd s mask row * 2 ^ s) k ≡ min (differ (has row k) (has row (k - s))) (has (mask * 2 ^ s) k)
+      at : Dec (s ≤ k) → has (odd s mask row * 2 ^ s) k ≡ min ((has row k + has row (k - s)) % 2) (has (mask * 2 ^ s) k)
       at (yes l) = let e : s + (k - s) ≡ k = omega arith in rw e at (late (k - s))
-      at (no d) =
-          rw (has_shl_low (odd s mask row) s k (omega arith), has_shl_low mask s k (omega arith))
-          (sym (min-zero (differ (has row k) (has row (k - s)))))
+      at (no d) = rw (has_shl_low (odd s mask row) s k (omega arith), has_shl_low mask s k (omega arith)) (sym (min-zero _))
 
   -- one exchange of bits brings bit `moved s mask k` to bit k
   turned_has : (k : ℕ) → k < 64 → has mask k + has (mask * 2 ^ s) k ≤ 1 → has (turned s mask row) k ≡ has row (moved s mask k)
   turned_has k l one =
       rw (
-        has_xor (bit_xor row (odd s mask row)) (odd s mask row * 2 ^ s % 2 ^ 64) k,
-        has_xor row (odd s mask row) k,
+        xor_has (bit_xor row (odd s mask row)) (odd s mask row * 2 ^ s % 2 ^ 64) k,
+        xor_has row (odd s mask row) k,
         odd_has k,
         has_mod 32 (odd s mask row * 2 ^ s) k l,
         odd_up k,
@@ -127,32 +96,32 @@ none₂ = 65535
 fine : ℕ → ℕ → ℕ → Bool
 fine s mask k = leb (has mask k + has (mask * 2 ^ s) k) 1 && leb (moved s mask k) 63
 
-fine₀ : every (fine 3 none₀) 64 ≡ true
-unfolding every fine has
+fine₀ : agree_below (fine 3 none₀) (λ k. true) 64 ≡ true
+unfolding fine has
 fine₀ = refl
 
-fine₁ : every (fine 12 none₁) 64 ≡ true
-unfolding every fine has
+fine₁ : agree_below (fine 12 none₁) (λ k. true) 64 ≡ true
+unfolding fine has
 fine₁ = refl
 
-fine₂ : every (fine 48 none₂) 64 ≡ true
-unfolding every fine has
+fine₂ : agree_below (fine 48 none₂) (λ k. true) 64 ≡ true
+unfolding fine has
 fine₂ = refl
 
 -- so it brings that bit there
-turn : (s mask : ℕ) → every (fine s mask) 64 ≡ true → (row k : ℕ) → k < 64
+turn : (s mask : ℕ) → agree_below (fine s mask) (λ k. true) 64 ≡ true → (row k : ℕ) → k < 64
     → (moved s mask k < 64) × (has (turned s mask row) k ≡ has row (moved s mask k))
 unfolding fine
 turn s mask all row k l =
     let one = leb (has mask k + has (mask * 2 ^ s) k) 1 in
     let low = leb (moved s mask k) 63 in
-    let both : one && low ≡ true = every_at (fine s mask) 64 all k l in
+    let both : one && low ≡ true = agree_below_at (fine s mask) (λ k. true) 64 k all l in
     let in-row = leb-true (moved s mask k) 63 (both_second one low both) in
     (omega arith, turned_has s mask row k l (leb-true (has mask k + has (mask * 2 ^ s) k) 1 (both_first one low both)))
 
 -- three exchanges read the bits with their digits exchanged
-three_moved : every (λ k. eqb (moved 48 none₂ (moved 12 none₁ (moved 3 none₀ k))) (exchange 3 k)) 64 ≡ true
-unfolding every has exchange digits number swap
+three_moved : agree_below (λ k. eqb (moved 48 none₂ (moved 12 none₁ (moved 3 none₀ k))) (exchange 3 k)) (λ k. true) 64 ≡ true
+unfolding has exchange digits number swap
 three_moved = refl
 
 -- three exchanges of bits after each other exchange the digits of a row's codes
@@ -165,21 +134,21 @@ row_exchanged_lem row k l =
     let third = turn 48 none₂ fine₂ row b second.0 in
     let e : moved 48 none₂ b ≡ exchange 3 k =
     eqb_eq (moved 48 none₂ b) (exchange 3 k)
-    (every_at (λ k. eqb (moved 48 none₂ (moved 12 none₁ (moved 3 none₀ k))) (exchange 3 k)) 64 three_moved k l) in
+    (agree_below_at (λ k. eqb (moved 48 none₂ (moved 12 none₁ (moved 3 none₀ k))) (exchange 3 k)) (λ k. true) 64 k three_moved l) in
     first.1 ∙ second.1 ∙ third.1 ∙ ap (has row) e
 
 -- a number of three digits with the bits of each digit flipped, but for the digits with unlike bits
 abbrev pub flipped : ℕ → ℕ
 flipped i = bit_xor (bit_xor i 63) (3 * bit_and (bit_xor i (i / 2)) 21)
 
-all_flipped : every (λ i. eqb (flipped i) (exchange 3 i)) 64 ≡ true
-unfolding every exchange digits number swap
+all_flipped : agree_below (λ i. eqb (flipped i) (exchange 3 i)) (λ i. true) 64 ≡ true
+unfolding exchange digits number swap
 all_flipped = refl
 
 -- a row's number is so exchanged
 pub partner_exchanged : (i : ℕ) → i < 64 → (flipped i < 64) × (flipped i ≡ exchange 3 i)
 partner_exchanged i l =
-    let e : flipped i ≡ exchange 3 i = eqb_eq (flipped i) (exchange 3 i) (every_at (λ i. eqb (flipped i) (exchange 3 i)) 64 all_flipped i l) in
+    let e : flipped i ≡ exchange 3 i = eqb_eq (flipped i) (exchange 3 i) (agree_below_at (λ i. eqb (flipped i) (exchange 3 i)) (λ i. true) 64 i all_flipped l) in
     (omega (arith, exchange_lt 3 i), e)
 
 -- a number of six digits is exchanged by halves

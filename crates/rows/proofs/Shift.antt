@@ -7,71 +7,68 @@
 --   up_row k x     the row after k steps upwards
 --   down_row k x   the row after k steps downwards
 --   above_row k x  the row's marks higher by one of the first k literals
-use mathlib.Core.Path.{◌≡◌, refl, sym, ap, ◌∙◌}
-use mathlib.Core.Bool.{Bool, true, ◌&&◌}
+use mathlib.Core.Path.{◌≡◌, refl, ap, ◌∙◌}
+use mathlib.Core.Bool.{Bool, true}
 use Prim.Native.Nat.{ℕ, zero, suc, ◌+◌, ◌-◌, ◌*◌, ◌/◌, ◌%◌, ◌^◌, ◌≤◌, ◌<◌, min}
 use native.Mathlib.Nat.{add_comm, min_comm}
 use native.Mathlib.Decide.{ℕ_discrete}
 use native.Mathlib.Omega.{arith}
-use lib.Bits.{bit_and, bit_or}
-use lib.Dec.{T, eqb, ltb, eqb→eq, ltb→lt}
+use lib.Bits.{bit_and, bit_or, bit_xor}
+use lib.Dec.{eqb, ltb}
 use lib.Pow.{pow_pos, shl-shr, shr-shr}
-use mir.Facts.{and_yes}
+use Rattle.std.proofs.lemmas.Bool.{agree_below, agree_below_at, eqb-true, ltb-true}
+use Rattle.std.proofs.lemmas.Nat.Bits.{bit_at_ones, bit_at_xor}
 use Rattle.fuzzy.specs.Phrase.{has}
 use Rattle.fuzzy.proofs.Literals.{has_lt, has_le, has_or, has_and, has_none, has_mod}
 use Rattle.rows.specs.Stage.{raise, lower, closed_up, closed_down, raised}
-
--- the test passes at each number below n
-abbrev all : (ℕ → Bool) → ℕ → Bool
-all f zero = true
-all f (suc n) = f n && all f n
-
-all_at : (f : ℕ → Bool) (n : ℕ) → T (all f n) → (k : ℕ) → k < n → T (f k)
-all_at f zero t k l = absurd (omega arith)
-all_at f (suc n) t k l = at (and_yes (f n) (all f n) t) (λ r. all_at f n r k) (ℕ_discrete k n)
-  where
-    at : T (f n) × T (all f n) → (T (all f n) → k < n → T (f k)) → Dec (k ≡ n) → T (f k)
-    at (here, rest) more (yes e) = rw e here
-    at (here, rest) more (no d) = more rest (omega arith)
 
 -- the codes below 64 that have literal k, as a row
 abbrev mask : ℕ → ℕ
 mask k = (2 ^ 64 - 1) / (2 ^ 2 ^ k + 1) * 2 ^ 2 ^ k
 
 -- a test that passes, by computing, at all six literals and 64 codes
-each : (f : ℕ → ℕ → Bool) → T (all (λ k. all (f k) 64) 6) → (k : ℕ) → k < 6 → (c : ℕ) → c < 64 → T (f k c)
-each f t k lk c lc = all_at (f k) 64 (all_at (λ k. all (f k) 64) 6 t k lk) c lc
+each : (f : ℕ → ℕ → Bool) → agree_below (λ k. agree_below (f k) (λ c. true) 64) (λ k. true) 6 ≡ true → (k : ℕ) → k < 6 → (c : ℕ) → c < 64 → f k c ≡ true
+each f e k lk c lc = agree_below_at (f k) (λ c. true) 64 c (agree_below_at (λ k. agree_below (f k) (λ c. true) 64) (λ k. true) 6 k e lk) lc
 
 -- all 64 bits of the largest row are set
 pub full_has : (c : ℕ) → c < 64 → has 18446744073709551615 c ≡ 1
 unfolding has
-full_has c l = eqb→eq _ _ (all_at (λ b. eqb (has 18446744073709551615 b) 1) 64 tt c l)
+full_has c l = bit_at_ones 64 c l
 
 -- the mask marks the codes that have literal k
 mask_has : (k : ℕ) → k < 6 → (c : ℕ) → c < 64 → has (mask k) c ≡ has c k
 unfolding has
-mask_has k lk c lc = eqb→eq _ _ (each (λ k c. eqb (has (mask k) c) (has c k)) tt k lk c lc)
+mask_has k lk c lc = eqb-true _ _ (each (λ k c. eqb (has (mask k) c) (has c k)) refl k lk c lc)
 
 -- it marks 2 ^ k more than a code exactly where the code lacks that literal
 mask_added : (k : ℕ) → k < 6 → (c : ℕ) → c < 64 → has (mask k) (c + 2 ^ k) ≡ 1 - has c k
 unfolding has
-mask_added k lk c lc = eqb→eq _ _ (each (λ k c. eqb (has (mask k) (c + 2 ^ k)) (1 - has c k)) tt k lk c lc)
+mask_added k lk c lc = eqb-true _ _ (each (λ k c. eqb (has (mask k) (c + 2 ^ k)) (1 - has c k)) refl k lk c lc)
 
 -- and that is then below 64
 added_lt : (k : ℕ) → k < 6 → (c : ℕ) → c < 64 → c + 2 ^ k < 64 + 64 * has c k
 unfolding has
-added_lt k lk c lc = ltb→lt _ _ (each (λ k c. ltb (c + 2 ^ k) (64 + 64 * has c k)) tt k lk c lc)
+added_lt k lk c lc = ltb-true _ _ (each (λ k c. ltb (c + 2 ^ k) (64 + 64 * has c k)) refl k lk c lc)
+
+-- `bit_xor` adds the literals of both, without a carry
+pub xor_has : (p q k : ℕ) → has (bit_xor p q) k ≡ (has p k + has q k) % 2
+unfolding has
+xor_has p q k = bit_at_xor p q k
 
 -- a row shifted down has its marks lower
-has_shr : (x s c : ℕ) → has (x / 2 ^ s) c ≡ has x (c + s)
+pub has_shr : (x s c : ℕ) → has (x / 2 ^ s) c ≡ has x (s + c)
 unfolding has
-has_shr x s c = rw (shr-shr x s c, add_comm s c)
+has_shr x s c = rw (shr-shr x s c)
 
--- a row shifted up has its marks higher, below 64
-has_shl : (x s c : ℕ) → s ≤ c → c < 64 → has (x * 2 ^ s % 2 ^ 64) c ≡ has x (c - s)
-has_shl x s c l lc =
-    let e : c ≡ c - s + s = omega arith in
-    has_mod 32 (x * 2 ^ s) c lc ∙ ap (has (x * 2 ^ s)) e ∙ sym (has_shr (x * 2 ^ s) s (c - s)) ∙ ap (λ (y : ℕ). has y (c - s)) (shl-shr x s)
+-- and shifted up higher
+pub has_shl : (x s c : ℕ) → has (x * 2 ^ s) (s + c) ≡ has x c
+has_shl x s c = rw (← has_shr (x * 2 ^ s) s c, shl-shr x s)
+
+-- also below 64
+has_shl_row : (x s c : ℕ) → s ≤ c → c < 64 → has (x * 2 ^ s % 2 ^ 64) c ≡ has x (c - s)
+has_shl_row x s c l lc =
+    let e : c ≡ s + (c - s) = omega arith in
+    has_mod 32 (x * 2 ^ s) c lc ∙ ap (has (x * 2 ^ s)) e ∙ has_shl x s (c - s)
 
 -- the row's marks one literal higher
 abbrev raise_row : ℕ → ℕ → ℕ
@@ -89,7 +86,7 @@ raise_row_lem k lk x f same c lc =
     rw (has_and (x * 2 ^ 2 ^ k % 2 ^ 64) (mask k) c, mask_has k lk c lc) (at (ℕ_discrete (has c k) 1))
   where
     at : Dec (has c k ≡ 1) → min (has (x * 2 ^ 2 ^ k % 2 ^ 64) c) (has c k) ≡ min (has c k) (f (c - 2 ^ k))
-    at (yes e) = rw (has_shl x (2 ^ k) c (has_le c k e) lc, same (c - 2 ^ k) (omega arith)) (min_comm _ _)
+    at (yes e) = rw (has_shl_row x (2 ^ k) c (has_le c k e) lc, same (c - 2 ^ k) (omega arith)) (min_comm _ _)
     at (no d) = omega (arith, has_lt c k)
 
 -- a step downwards lowers the marks f of a row
@@ -97,7 +94,7 @@ lower_row_lem : (k : ℕ) → k < 6 → (x : ℕ) (f : ℕ → ℕ) → ((c : �
     → (c : ℕ) → c < 64 → has (lower_row k x) c ≡ lower k f c
 unfolding lower
 lower_row_lem k lk x f same c lc =
-    rw (has_shr (bit_and x (mask k)) (2 ^ k) c, has_and x (mask k) (c + 2 ^ k), mask_added k lk c lc) (at (ℕ_discrete (has c k) 0))
+    rw (has_shr (bit_and x (mask k)) (2 ^ k) c, add_comm (2 ^ k) c, has_and x (mask k) (c + 2 ^ k), mask_added k lk c lc) (at (ℕ_discrete (has c k) 0))
   where
     at : Dec (has c k ≡ 0) → min (has x (c + 2 ^ k)) (1 - has c k) ≡ min (1 - has c k) (f (c + 2 ^ k))
     at (yes e) = rw (same (c + 2 ^ k) (omega (arith, added_lt k lk c lc))) (min_comm _ _)

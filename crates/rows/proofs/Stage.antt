@@ -15,20 +15,20 @@ use Rattle.rows.specs.Square.{square}
 use Rattle.rows.specs.Stage.{raise, lower, closed_up, closed_down, raised}
 
 -- a literal that is added is there
-more_has : (p k : ℕ) → has p k ≡ 0 → has (p + 2 ^ k) k ≡ 1
+pub more_has : (p k : ℕ) → has p k ≡ 0 → has (p + 2 ^ k) k ≡ 1
 more_has p zero h = omega (arith, has_zero p, has_zero (p + 2 ^ 0))
 more_has p (suc k) h =
     let half : (p + 2 ^ suc k) / 2 ≡ p / 2 + 2 ^ k = omega arith in
     rw (has_next (p + 2 ^ suc k) k, half) (more_has (p / 2) k (rw (has_next p k) at h))
 
 -- adding a literal leaves the others
-more_others : (p k j : ℕ) → has p k ≡ 0 → j ≢ k → has (p + 2 ^ k) j ≡ has p j
+pub more_others : (p k j : ℕ) → has p k ≡ 0 → j ≢ k → has (p + 2 ^ k) j ≡ has p j
 more_others p k j h d =
     let back : less (p + 2 ^ k) k ≡ p = omega arith in
     sym (less_others (p + 2 ^ k) k j (more_has p k h) d) ∙ ap (λ (x : ℕ). has x j) back
 
 -- adding a literal below m that a code below 2 ^ m lacks keeps it below
-more_lt : (m p k : ℕ) → p < 2 ^ m → k < m → has p k ≡ 0 → p + 2 ^ k < 2 ^ m
+pub more_lt : (m p k : ℕ) → p < 2 ^ m → k < m → has p k ≡ 0 → p + 2 ^ k < 2 ^ m
 more_lt zero p k l lk h = absurd (omega arith)
 more_lt (suc m) p zero l lk h = omega (arith, has_zero p)
 more_lt (suc m) p (suc k) l lk h = omega (arith, more_lt m (p / 2) k (omega arith) (omega arith) (rw (has_next p k) at h))

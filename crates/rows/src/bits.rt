@@ -16,6 +16,9 @@ const HAS_4: u64 = 0xffff_0000_ffff_0000;
 
 const HAS_5: u64 = 0xffff_ffff_0000_0000;
 
+// The three passes below have a line for each of the six literals. A loop would need a table of masks and a second shift, for the length of the step:
+// no plainer, and the steps are proved each by itself.
+
 // Closed upwards.
 pub(crate) fn up(row: u64) -> u64
     ensures { (c : ℕ) → c < 64 → has result c ≡ closed_up 6 (has row) c }

@@ -10,18 +10,18 @@ impl Marks {
     {
         let mut marks = made::each(|i| bits::up(self.rows[i]));
         for k in 0..6 {
-            marks = across::raise(&marks, &marks, k);
+            across::raise(&mut marks, k);
         }
         marks
     }
 
-    // The codes that are within some marked code.
+    // The codes that are within some marked code. Each closing names its own passes; one with a direction is no plainer.
     pub fn close_down(&self) -> Marks
         ensures { ClosedDown self.now.rows result.rows }
     {
         let mut marks = made::each(|i| bits::down(self.rows[i]));
         for k in 0..6 {
-            marks = across::lower(&marks, k);
+            across::lower(&mut marks, k);
         }
         marks
     }
@@ -32,7 +32,7 @@ impl Marks {
     {
         let mut above = made::each(|i| bits::above(self.rows[i]));
         for k in 0..6 {
-            above = across::raise(&above, self, k);
+            across::raise_from(&mut above, self, k);
         }
         made::each(|i| bits::without(self.rows[i], above.rows[i]))
     }

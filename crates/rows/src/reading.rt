@@ -17,7 +17,8 @@ impl Marks {
         total
     }
 
-    // Writes the marked codes, rising, at the front of the buffer, if they fit, and gives how many there are.
+    // Writes the marked codes, rising, at the front of the buffer, if they fit, and gives how many there are. The number is given whether they
+    // fit or not: its promise is older than this form.
     pub fn read(&self, codes: &mut [u16]) -> usize
         ensures { (result ≡ length (marks_of self.now.rows 4096)) × (codes.new ≡ read_into (marks_of self.now.rows 4096) codes.old) }
     {
@@ -26,14 +27,15 @@ impl Marks {
             return total;
         }
         let mut at = 0;
-        for i in 0..64 {
-            at = read_row(self.rows[i], (i * 64) as u16, codes, at);
+        for (i, row) in self.rows.iter().enumerate() {
+            at = read_row(*row, (i * 64) as u16, codes, at);
         }
         total
     }
 }
 
-// Writes the codes that a row marks, its first code being `base`, from place `at` of the buffer on, and gives the place after them.
+// Writes the codes that a row marks, its first code being `base`, from place `at` of the buffer on, and gives the place after them. The place goes
+// beside the buffer, since a part of it lent anew for each row is no plainer.
 fn read_row(row: u64, base: u16, codes: &mut [u16], at: usize) -> usize
     requires base_bound { base ≤ 4032 }
     requires room { at + length (row_marks row base) ≤ length codes.old }

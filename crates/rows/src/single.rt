@@ -1,22 +1,17 @@
 // One code among the marks.
 ghost use Rattle.rows.specs.Pass.{Removed, Held, Covered};
 
-use crate::{Marks, bits};
-
-// How many codes there are.
-const CODES: u16 = 4096;
+use crate::{CODES, Marks, bits};
 
 impl Marks {
-    // The marked codes without one, where it is marked.
-    pub fn unmark(&self, code: u16) -> Marks
-        ensures { Removed self.now.rows code result.rows }
+    // Takes a code out of the marked ones, where it is marked.
+    pub fn unmark(&mut self, code: u16)
+        ensures { Removed self.old.rows code self.new.rows }
     {
-        let mut rows = self.rows;
         if code < CODES {
             let row = code as usize / 64;
-            rows[row] = bits::without(rows[row], 1u64 << (code % 64));
+            self.rows[row] = bits::without(self.rows[row], 1u64 << (code % 64));
         }
-        Marks { rows }
     }
 
     // Whether the code is marked; no for 4,096 and above.
@@ -30,7 +25,8 @@ impl Marks {
         (row >> (code % 64)) & 1 != 0
     }
 
-    // Whether some marked code has all literals of the code; no for 4,096 and above. Its row has all of the code's row.
+    // Whether some marked code has all literals of the code; no for 4,096 and above. Its row has all of the code's row, so the rows
+    // go by number.
     pub fn covers(&self, code: u16) -> bool
         ensures { Covered self.now.rows code result }
     {

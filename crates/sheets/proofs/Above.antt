@@ -85,6 +85,6 @@ unfolding first_from
 scan_next t v m l e = let one : m - v ≡ suc (m - (v + 1)) = omega arith in rw (one, e, add-one v)
 
 -- past the last nothing is left
-pub scan_end : (t : ℕ → Bool) (m : ℕ) → first_from t m (m - m) ≡ m
+pub scan_end : (t : ℕ → Bool) (v m : ℕ) → v ≡ m → first_from t v (m - v) ≡ m
 unfolding first_from
-scan_end t m = let none : m - m ≡ 0 = omega arith in rw none
+scan_end t v m e = let none : m - v ≡ 0 = omega arith in rw none e

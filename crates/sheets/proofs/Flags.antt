@@ -2,7 +2,7 @@
 use mathlib.Core.Path.{◌≡◌, refl, sym, ap, ◌∙◌}
 use mathlib.Core.Bool.{Bool, true, false, false≢true}
 use mathlib.Core.List.{List, [], ◌++◌}
-use Prim.Native.Nat.{ℕ, ◌+◌, ◌-◌, ◌/◌, ◌%◌, ◌≤◌, ◌<◌, min}
+use Prim.Native.Nat.{ℕ, ◌+◌, ◌-◌, ◌≤◌, ◌<◌, min}
 use native.Mathlib.Nat.{lt_of_lt_of_le, le_trans, min-le_left, min-le_right, pow-le-pow_right}
 use native.Mathlib.Decide.{ℕ_discrete, dec_le}
 use borrow.Author.Tests.{eq-eqb, le-leb}
@@ -14,8 +14,8 @@ use lib.Seq.{take-append_seam}
 use Rattle.fuzzy.specs.Function.{Fn}
 use Rattle.fuzzy.specs.Primes.{primes}
 use Rattle.fuzzy.specs.Cover.{cover, flags}
-use Rattle.fuzzy.proofs.Literals.{has_lt}
 use Rattle.fuzzy.proofs.Cover.{flags_length}
+use Rattle.rows.proofs.Stage.{square_lt}
 use Rattle.rows.specs.Square.{square}
 use Rattle.rows.specs.Pass.{Held}
 use Rattle.rows.specs.Read.{marks_of, written, read_into}
@@ -27,15 +27,12 @@ use Rattle.sheets.proofs.Walked.{flags_square, prime_lt}
 
 -- a code's flag is its mark
 held_square : (kept : List ℕ) (c : ℕ) (b : Bool) → c < 4096 → Held kept c b → bool_byte b ≡ square kept c
-unfolding square
 held_square kept c true l h = sym (h.0 refl).1
-held_square kept c false l h =
-    let s : square kept c < 2 = has_lt (get_or kept (c / 64) 0) (c % 64) in
-    at (ℕ_discrete (square kept c) 1) s
+held_square kept c false l h = at (ℕ_discrete (square kept c) 1)
   where
-    at : Dec (square kept c ≡ 1) → square kept c < 2 → 0 ≡ square kept c
-    at (yes e) s = absurd (false≢true (h.1 (l, e)))
-    at (no d) s = omega arith
+    at : Dec (square kept c ≡ 1) → 0 ≡ square kept c
+    at (yes e) = absurd (false≢true (h.1 (l, e)))
+    at (no d) = omega (arith, square_lt kept c)
 
 -- one flag more
 pub flagged_next : (kept codes old new : List ℕ) (i : ℕ) (b : Bool) → i < length old → Flagged kept codes i old new

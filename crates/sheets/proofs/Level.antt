@@ -2,18 +2,22 @@
 -- The first code is built one variable after the other; the second is the first with its pairs taken out, since exchanging the digits 0 and 3 of a code
 -- without absent variables takes its pairs out. A phrase is above a sheet exactly when the literals that reach its value subsume it and no phrase of the sheet.
 use mathlib.Core.Path.{◌≡◌, refl, sym, ap, ◌∙◌}
+use mathlib.Core.Bool.{true}
 use mathlib.Core.Logic.{◌⊎◌, inl, inr, ⊎_elim}
 use Prim.Native.Nat.{ℕ, zero, suc, ◌+◌, ◌-◌, ◌*◌, ◌/◌, ◌%◌, ◌^◌, ◌≤◌, ◌<◌, min}
-use native.Mathlib.Nat.{le_trans, le_of_eq, lt_of_lt_of_le, min-zero, zero-max, min_comm, max-eq_left, add_comm, pow-suc, pow-le-pow_right, div-div-eq-div-mul}
+use native.Mathlib.Nat.{le_trans, le_of_eq, lt_of_lt_of_le, min-zero, zero-max, max-eq_left, add_comm, pow-suc, pow-le-pow_right, div-div-eq-div-mul}
 use native.Mathlib.Decide.{dec_lt, ℕ_discrete}
 use native.Mathlib.Numerals.{add-one}
 use native.Mathlib.Omega.{arith}
-use lib.Bits.{bit_and, bit_or, bit_xor, differ, and_le_r, or_lt, xor_lt}
+use lib.Bits.{bit_and, bit_or, bit_xor, and_le_r, or_lt, xor_lt}
+use lib.Dec.{eqb}
 use lib.ListN.{length-map}
+use Rattle.std.proofs.lemmas.Bool.{agree_below_at, eqb-true}
 use Rattle.fuzzy.specs.Phrase.{digits, has}
 use Rattle.fuzzy.specs.Vector.{vector}
 use Rattle.fuzzy.proofs.Digits.{number, digits_length}
-use Rattle.fuzzy.proofs.Literals.{has_lt, has_and, has_or, has_xor, has_zero, has_next, has_high, same_literals}
+use Rattle.fuzzy.proofs.Literals.{has_lt, has_and, has_or, has_zero, has_next, has_high, same_literals}
+use Rattle.rows.proofs.Shift.{xor_has}
 use Rattle.fuzzy.proofs.Decide.{vector_grades}
 use Rattle.fuzzy.proofs.Reach.{reach_digit, reach, reach_lt}
 use Rattle.fuzzy.proofs.Within.{flip, exchange_flip}
@@ -35,26 +39,18 @@ mask = 1365
 
 mask_even : (j : ℕ) → j < 6 → has mask (2 * j) ≡ 1
 unfolding has
-mask_even zero l = refl
-mask_even (suc zero) l = refl
-mask_even (suc (suc zero)) l = refl
-mask_even (suc (suc (suc zero))) l = refl
-mask_even (suc (suc (suc (suc zero)))) l = refl
-mask_even (suc (suc (suc (suc (suc zero))))) l = refl
-mask_even (suc (suc (suc (suc (suc (suc j)))))) l = absurd (omega arith)
+mask_even j l = eqb-true _ _ (agree_below_at (λ j. eqb (has mask (2 * j)) 1) (λ j. true) 6 j refl l)
 
 mask_odd : (j : ℕ) → has mask (suc (2 * j)) ≡ 0
 unfolding has
-mask_odd zero = refl
-mask_odd (suc zero) = refl
-mask_odd (suc (suc zero)) = refl
-mask_odd (suc (suc (suc zero))) = refl
-mask_odd (suc (suc (suc (suc zero)))) = refl
-mask_odd (suc (suc (suc (suc (suc zero))))) = refl
-mask_odd (suc (suc (suc (suc (suc (suc j)))))) = has_high 6 mask _ (omega arith) (omega arith)
+mask_odd j = at (dec_lt j 6)
+  where
+    at : Dec (j < 6) → has mask (suc (2 * j)) ≡ 0
+    at (yes l) = eqb-true _ _ (agree_below_at (λ j. eqb (has mask (suc (2 * j))) 0) (λ j. true) 6 j refl l)
+    at (no d) = has_high 6 mask (suc (2 * j)) (omega arith) (omega arith)
 
 -- a number is even or odd
-parity : (k : ℕ) → ((j : ℕ) × (k ≡ 2 * j)) ⊎ ((j : ℕ) × (k ≡ suc (2 * j)))
+pub parity : (k : ℕ) → ((j : ℕ) × (k ≡ 2 * j)) ⊎ ((j : ℕ) × (k ≡ suc (2 * j)))
 parity k = at (ℕ_discrete (k % 2) 0)
   where
     at : Dec (k % 2 ≡ 0) → ((j : ℕ) × (k ≡ 2 * j)) ⊎ ((j : ℕ) × (k ≡ suc (2 * j)))
@@ -104,22 +100,11 @@ module _ (c : ℕ) (six : c < 4 ^ 6) where
 
   -- so without them a code has the literals whose complement it lacks
   pub unpaired_has : (k : ℕ) → has (bit_xor c (bit_or pairs (pairs + pairs))) k ≡ has c k - has c (flip k)
-  unpaired_has k = rw (has_xor c (bit_or pairs (pairs + pairs)) k) (at (parity k))
+  unpaired_has k = rw (xor_has c (bit_or pairs (pairs + pairs)) k) (at (parity k))
     where
-      out : (x y : ℕ) → x < 2 → y < 2 → differ x (min x y) ≡ x - y
-      out zero zero a b = refl
-      out zero (suc zero) a b = refl
-      out (suc zero) zero a b = refl
-      out (suc zero) (suc zero) a b = refl
-      out zero (suc (suc y)) a b = absurd (omega arith)
-      out (suc zero) (suc (suc y)) a b = absurd (omega arith)
-      out (suc (suc x)) y a b = absurd (omega arith)
-
-      at : ((j : ℕ) × (k ≡ 2 * j)) ⊎ ((j : ℕ) × (k ≡ suc (2 * j))) → differ (has c k) (has (bit_or pairs (pairs + pairs)) k) ≡ has c k - has c (flip k)
-      at (inl (j, e)) = rw (e, flip_even j, both_even j) (out (has c (2 * j)) (has c (suc (2 * j))) (has_lt c (2 * j)) (has_lt c (suc (2 * j))))
-      at (inr (j, e)) =
-          rw (e, flip_odd j, both_odd j, min_comm (has c (2 * j)) (has c (suc (2 * j))))
-          (out (has c (suc (2 * j))) (has c (2 * j)) (has_lt c (suc (2 * j))) (has_lt c (2 * j)))
+      at : ((j : ℕ) × (k ≡ 2 * j)) ⊎ ((j : ℕ) × (k ≡ suc (2 * j))) → (has c k + has (bit_or pairs (pairs + pairs)) k) % 2 ≡ has c k - has c (flip k)
+      at (inl (j, e)) = rw (e, flip_even j, both_even j) (omega (arith, has_lt c (2 * j), has_lt c (suc (2 * j))))
+      at (inr (j, e)) = rw (e, flip_odd j, both_odd j) (omega (arith, has_lt c (2 * j), has_lt c (suc (2 * j))))
 
   -- the pairs twice are a code of six variables
   pairs_fit : pairs + pairs < 4 ^ 6

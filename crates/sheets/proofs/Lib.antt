@@ -11,7 +11,12 @@
 --   Maps       the passes give the within maps, and from a map the marks of its primes
 --   Lists      those marks are the lists of the sheet, the join, the meet and the complement
 --   Published  what a list call answers, from the checks and from what was read
+--   Cells      a phrase with pairs is an implicant where some phrase is within each of its points
+--   Below      the points that phrases with fewer pairs are within
+--   Placed     a phrase's set of pairs, and its points
 --   Walked     the walk over marks leaves the marks of the cover
+--   Standing   where the walk stands before and after it meets a prime
+--   Turns      the loops that meet the primes
 --   Flags      flags written one after the other, and the buffer that they leave
 --   Checks     what it means that one of the checks applies, and that none does
 --   Given      what a list call gave, once it is done
@@ -29,7 +34,12 @@ pub mod Meaning
 pub mod Maps
 pub mod Lists
 pub mod Published
+pub mod Cells
+pub mod Below
+pub mod Placed
 pub mod Walked
+pub mod Standing
+pub mod Turns
 pub mod Flags
 pub mod Checks
 pub mod Given

@@ -10,10 +10,10 @@ use Rattle.fuzzy.specs.Primes.{primes, listed, joined, met, complemented}
 use Rattle.fuzzy.proofs.Within.{meet_sheet, complement_sheet}
 use Rattle.fuzzy.proofs.Closure.{join_sheet, meet_sheet_lem, complement_sheet_lem}
 use Rattle.fuzzy.proofs.Wider.{Widens, widens_sheet, widens_join, widens_meet, widens_complement}
-use Rattle.rows.specs.Pass.{Either, Both, Exchanged, Others}
+use Rattle.rows.specs.Pass.{Both, Exchanged, Others}
 use Rattle.rows.specs.Read.{marks_of}
 use Rattle.sheets.specs.Maps.{Maps, PrimesOf}
-use Rattle.sheets.proofs.Maps.{maps_join, maps_meet, maps_complement, marks_list}
+use Rattle.sheets.proofs.Maps.{maps_meet, maps_complement, marks_list}
 
 -- the codes of a sheet are phrases over n variables
 abbrev pub Codes : ℕ → List ℕ → Type 0
@@ -36,17 +36,17 @@ module _ (n : ℕ) (few : n ≤ 6) where
   pub listed_marks : (F u r : List ℕ) → Codes n F → Maps F u → PrimesOf n u r → marks_of r 4096 ≡ listed n F
   listed_marks F u r below maps is = list_of (sheet_fn n F) (sheet_fn 6 F) F u r (widens_six F below) (λ s h v g. refl) maps is
 
-  module _ (A B u v w r : List ℕ) (a : Codes n A) (b : Codes n B) (ma : Maps A u) (mb : Maps B v) (is : PrimesOf n w r) where
+  module _ (A B w r : List ℕ) (a : Codes n A) (b : Codes n B) (is : PrimesOf n w r) where
     -- the join's list
-    pub joined_marks : Either u v w → marks_of r 4096 ≡ joined n A B
-    joined_marks e =
+    pub joined_marks : Maps (A ++ B) w → marks_of r 4096 ≡ joined n A B
+    joined_marks maps =
         list_of (join_fn (sheet_fn n A) (sheet_fn n B)) (join_fn (sheet_fn 6 A) (sheet_fn 6 B)) (A ++ B) w r
         (widens_join (6 - n) n (sheet_fn n A) (sheet_fn n B) (sheet_fn 6 A) (sheet_fn 6 B) (widens_six A a) (widens_six B b))
-        (join_sheet 6 A B) (maps_join A B u v w ma mb e) is
+        (join_sheet 6 A B) maps is
 
     -- the meet's list
-    pub met_marks : Both u v w → marks_of r 4096 ≡ met n A B
-    met_marks e =
+    pub met_marks : (u v : List ℕ) → Maps A u → Maps B v → Both u v w → marks_of r 4096 ≡ met n A B
+    met_marks u v ma mb e =
         list_of (meet_fn (sheet_fn n A) (sheet_fn n B)) (meet_fn (sheet_fn 6 A) (sheet_fn 6 B)) (meet_sheet A B) w r
         (widens_meet (6 - n) n (sheet_fn n A) (sheet_fn n B) (sheet_fn 6 A) (sheet_fn 6 B) (widens_six A a) (widens_six B b))
         (meet_sheet_lem 6 A B) (maps_meet A B u v w ma mb e) is

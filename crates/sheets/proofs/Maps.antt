@@ -2,12 +2,13 @@
 -- The codes within some simple or full code outside the map are the phrases that are no implicants (`Fast.outside_of`), the least of the others are the
 -- primes over six variables, and those below 4 ^ n are the primes over n (`Wider.wider`).
 use mathlib.Core.Path.{◌≡◌, refl, sym, ap, ap₂, ◌∙◌}
-use mathlib.Core.Bool.{Bool, true, false, cond, false≢true}
+use mathlib.Core.Bool.{Bool, true, false, false≢true}
+use mathlib.Core.List.Memᴰ
 use mathlib.Core.Logic.Iff
 use mathlib.Core.Logic.{◌⊎◌, inl, inr, ◌↔◌, ⊎_elim}
-use mathlib.Core.List.{List, [], ◌∷◌, ◌++◌, append-nil, append_assoc, Memᴰ}
+use mathlib.Core.List.{List, [], ◌++◌, append-nil, Memᴰ}
 use Prim.Native.Nat.{ℕ, zero, suc, ◌+◌, ◌^◌, ◌≤◌, ◌<◌}
-use native.Mathlib.Nat.{lt_trans, not-le_of_lt, zero-add, add-zero, suc-add, le_dest, pow-le-pow_right}
+use native.Mathlib.Nat.{lt_trans, not-le_of_lt, le_dest, pow-le-pow_right}
 use native.Mathlib.Omega.{arith}
 use Rattle.fuzzy.specs.Phrase.{has, less}
 use Rattle.fuzzy.specs.Function.{Fn, sheet_fn, Same}
@@ -18,9 +19,10 @@ use Rattle.fuzzy.proofs.Search.{known, eqb_eq, eq-eqb, select_same}
 use Rattle.fuzzy.proofs.Literals.{less_smaller}
 use Rattle.fuzzy.proofs.Decide.{decided, refused}
 use Rattle.fuzzy.proofs.Prime.{prime_test, spare_says}
-use Rattle.fuzzy.proofs.Within.{meet_sheet, complement_sheet, exchange, exchange_lt, within_join, within_meet, within_complement}
+use Rattle.fuzzy.proofs.Within.{meet_sheet, complement_sheet, exchange, exchange_lt, within_meet, within_complement}
 use Rattle.fuzzy.proofs.Fast.{outside_of}
 use Rattle.fuzzy.proofs.Wider.{Widens, same_truth, wider}
+use Rattle.rows.proofs.Selected.{select_split}
 use Rattle.rows.specs.Square.{square, Marked}
 use Rattle.rows.specs.Pass.{ClosedUp, ClosedDown, Exchanged, Outside, Least, Others, Either, Both, OfSheet, Cut}
 use Rattle.rows.specs.Read.{is_marked, marks_of}
@@ -33,11 +35,12 @@ maps_sheet F m u below holds up c l = (
   λ w. let (q, mq, s) = w in (up c l).1 (q, (holds q (below q mq)).1 mq, s),
 )
 
--- the or of two maps is the map of both sheets' phrases
-pub maps_join : (A B u v r : List ℕ) → Maps A u → Maps B v → Either u v r → Maps (A ++ B) r
-maps_join A B u v r a b e c l =
-    Iff.trans (e c l) (Iff.trans (λ w. ⊎_elim (λ h. inl ((a c l).0 h)) (λ h. inr ((b c l).0 h)) w, λ w. ⊎_elim (λ h. inl ((a c l).1 h)) (λ h. inr ((b c l).1 h)) w)
-    (Iff.symm (within_join 6 A B c)))
+-- the or of two sheets' marks marks the codes of both
+pub marks_both : (A B m o r : List ℕ) → OfSheet A m → OfSheet B o → Either m o r → OfSheet (A ++ B) r
+marks_both A B m o r a b e c l = (
+  λ h. ⊎_elim (λ x. Memᴰ.append_left B ((a c l).0 x)) (λ x. Memᴰ.append_right A ((b c l).0 x)) ((e c l).0 h),
+  λ h. (e c l).1 (⊎_elim (λ x. inl ((a c l).1 x)) (λ x. inr ((b c l).1 x)) (Memᴰ.append_cases A h)),
+)
 
 -- the and of two maps is the map of the meet
 pub maps_meet : (A B u v r : List ℕ) → Maps A u → Maps B v → Both u v r → Maps (meet_sheet A B) r
@@ -93,14 +96,6 @@ select_none : (t : ℕ → Bool) (m k : ℕ) → ((j : ℕ) → k ≤ j → j < 
 unfolding select
 select_none t zero k none = refl
 select_none t (suc m) k none = rw (none k (omega arith) (omega arith), select_none t m (suc k) (λ j l b. none j (omega arith) (omega arith)))
-
--- a choice from the first a numbers, and from those after them
-select_split : (t : ℕ → Bool) (a b k : ℕ) → select t k (a + b) ≡ select t k a ++ select t (k + a) b
-unfolding select
-select_split t zero b k = rw (zero-add b, add-zero k)
-select_split t (suc a) b k =
-    let e : k + suc a ≡ suc k + a = omega arith in
-    rw (suc-add a b, select_split t a b (suc k), e) (sym (append_assoc (cond (t k) (k ∷ []) []) (select t (suc k) a) (select t (suc k + a) b)))
 
 -- the passes together give the primes below 4 ^ n
 pub primes_of : (n : ℕ) (u o d i m r : List ℕ) → Outside u o → ClosedDown o d → Others d i → Least i m → Cut m n r → PrimesOf n u r

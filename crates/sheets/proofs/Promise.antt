@@ -13,14 +13,14 @@ use Rattle.fuzzy.specs.Vector.{above, lowest, implicant?}
 use Rattle.fuzzy.proofs.Search.{first_le}
 use Rattle.sheets.specs.declared.refusal.Refusal.{Refusal}
 use Rattle.sheets.specs.Answer.{Answer, Listed, done, first_of}
-use Rattle.sheets.specs.Told.{answer_of, value_told, verdict_told, count_told}
+use Rattle.sheets.specs.Told.{answer_of, value_told, verdict_told}
 use Rattle.sheets.specs.Refusal.{scaled, counted, graded, phrased, value_refusal, question_refusal}
 use Rattle.sheets.specs.Value.{value_answer, ValuePromise}
 use Rattle.sheets.specs.Implicant.{implicant_answer, Lowest, ImplicantPromise}
 use Rattle.sheets.specs.Listing.{of_sheet, of_pair, listed_answer, afterwards, PairPromise}
 use Rattle.sheets.proofs.Told.{refuses}
 use Rattle.sheets.proofs.Refused.{err_early, ok_early, holds_of}
-use Rattle.sheets.proofs.Published.{listed_err, listed_room, afterwards_err}
+use Rattle.sheets.proofs.Published.{listed_room}
 
 module _ (n : ℕ) (F : List ℕ) (s : ℕ) (v : List ℕ) where
   -- a refusal gives value 0
@@ -93,16 +93,6 @@ module _ (n : ℕ) (F : List ℕ) (p : ℕ) where
           record { answered = rw (← all, ← ex, ne_eqb x (3 ^ n) (λ h. omega arith)); sheet_kept = refl }
 
 module _ (made : ℕ → List ℕ → List ℕ → List ℕ) (n : ℕ) (A B cs : List ℕ) where
-  -- one of two sheets is refused
-  pub pair_refused : (r : Result ℕ Refusal) (e : Refusal) → IsErrAnd r (λ y. y ≡ e) → answer_of e ≡ first_of (of_pair n A B)
-      → PairPromise made n A B cs (count_told r) A B cs
-  pair_refused r e h is = record {
-    answered = listed_err (of_pair n A B) (made n A B) (length cs) r e h is;
-    first_kept = refl;
-    second_kept = refl;
-    codes_after = afterwards_err r e (made n A B) cs h;
-  }
-
   -- both pass, and what was made of them is published
   pub pair_published : done ≡ first_of (of_pair n A B) → (r : Listed) (ps cs' : List ℕ) → ps ≡ made n A B → r ≡ listed_answer [] ps (length cs) → cs' ≡ afterwards r ps cs
       → PairPromise made n A B cs r A B cs'

@@ -22,10 +22,9 @@ told_no_count (Err x) e h = ap (λ (y : Refusal). count_told (Err y)) h
 
 module _ (checks : List Answer) (ps : List ℕ) (room : ℕ) where
   -- a refusal of the sheets stands, with no entry
-  pub listed_err : (r : Result ℕ Refusal) (e : Refusal) → IsErrAnd r (λ y. y ≡ e) → answer_of e ≡ first_of checks → count_told r ≡ listed_answer checks ps room
+  pub listed_err : (e : Refusal) → answer_of e ≡ first_of checks → record { answer = answer_of e; count = 0 } ≡ listed_answer checks ps room
   unfolding listed_answer
-  listed_err r e h is =
-      told_no_count r e h ∙ rw (← (err_early e checks (fitted (length ps) room ∷ []) is), ne_eqb (answer_of e).number 0 (refuses e))
+  listed_err e is = rw (← (err_early e checks (fitted (length ps) room ∷ []) is), ne_eqb (answer_of e).number 0 (refuses e))
 
   -- where the sheets are in order the room decides
   pub listed_room : done ≡ first_of checks → (r : Listed) → r ≡ listed_answer [] ps room → r ≡ listed_answer checks ps room
@@ -37,10 +36,9 @@ pub afterwards_refused : (r : Listed) (new old : List ℕ) → (r.answer.number 
 unfolding afterwards
 afterwards_refused r new old d = rw (ne_eqb r.answer.number 0 d)
 
--- so does a result that hands a refusal on
-pub afterwards_err : (r : Result ℕ Refusal) (e : Refusal) (new old : List ℕ) → IsErrAnd r (λ y. y ≡ e) → old ≡ afterwards (count_told r) new old
-afterwards_err r e new old h =
-    sym (rw (told_no_count r e h) (afterwards_refused (record { answer = answer_of e; count = 0 }) new old (refuses e)))
+-- so does one that is handed on
+pub afterwards_err : (e : Refusal) (new old : List ℕ) → old ≡ afterwards (record { answer = answer_of e; count = 0 }) new old
+afterwards_err e new old = sym (afterwards_refused (record { answer = answer_of e; count = 0 }) new old (refuses e))
 
 -- where the call is done and there is room, the list is written
 pub written_done : (r : Listed) (ps old : List ℕ) → r.answer.number ≡ 0 → length ps ≤ length old → read_into ps old ≡ afterwards r ps old

@@ -1,5 +1,5 @@
 -- What one turn of each scan does to what is left of it.
-use mathlib.Core.Path.{◌≡◌, refl}
+use mathlib.Core.Path.{◌≡◌}
 use mathlib.Core.List.{List}
 use Prim.Native.Nat.{ℕ, suc, ◌+◌, ◌-◌, ◌*◌, ◌/◌, ◌%◌, ◌^◌, ◌≤◌, ◌<◌, min, max}
 use native.Mathlib.Nat.{le_trans, pow-le-pow_left, pow-le-pow_right}
@@ -27,9 +27,9 @@ phrase_step s p v i l =
     rw (this, rest, add-one i, drop-cons v i 0 l, four_pow (length v - 1 - i))
 
 -- nothing is left of it past the last variable
-pub phrase_end : (s p : ℕ) (v : List ℕ) → phrase_value s 0 p v ≡ s
+pub phrase_end : (s n p : ℕ) (v : List ℕ) → n ≡ 0 → phrase_value s n p v ≡ s
 unfolding phrase_value least digits
-phrase_end s p v = refl
+phrase_end s n p v e = rw e
 
 -- what is left of a sheet's greatest, past the phrase at j
 pub sheet_step : (s n : ℕ) (F v : List ℕ) (j : ℕ) → j < length F
@@ -38,6 +38,6 @@ unfolding sheet_value
 sheet_step s n F v j l = rw (add-one j, drop-cons F j 0 l)
 
 -- nothing is left of it past the last phrase
-pub sheet_end : (s n : ℕ) (F v : List ℕ) → sheet_value s n (drop (length F) F) v ≡ 0
+pub sheet_end : (s n : ℕ) (F v : List ℕ) (j : ℕ) → j ≡ length F → sheet_value s n (drop j F) v ≡ 0
 unfolding sheet_value
-sheet_end s n F v = rw (drop-length F)
+sheet_end s n F v j e = rw (e, drop-length F)

@@ -7,6 +7,7 @@
 --   Maps        within maps over six variables, and the marks of the primes that they give
 --   Listing     the answers of `list`, `join`, `meet` and `complement`, their buffers, and their promises
 --   Walk        the walk over marks that `list` takes to its cover
+--   Cell        phrases by their set of pairs, and the points that they cover
 pub mod Answer
 pub mod Told
 pub mod Refusal
@@ -15,3 +16,4 @@ pub mod Implicant
 pub mod Maps
 pub mod Listing
 pub mod Walk
+pub mod Cell

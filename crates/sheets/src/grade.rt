@@ -24,7 +24,8 @@ pub(crate) struct Grades<'a> {
 }
 
 impl<'a> Grades<'a> {
-    // 5: a scale not 2 to 1,000; 6: grades not n in number; 7: a grade above the scale.
+    // 5: a scale not 2 to 1,000; 6: grades not n in number; 7: a grade above the scale. Scale and grades come side by side to here, as document 01
+    // lends them.
     pub(crate) fn new(n: Variables, scale: u16, grades: &'a [u16]) -> Result<Grades<'a>, Refusal>
         ensures answer { told result ≡ first_of (scaled scale ∷ counted n.count grades.now ∷ graded scale grades.now ∷ []) }
         ensures given { IfOk result (λ v. (v.scale ≡ scale) × (v.grades.now ≡ grades.now) × (length grades.now ≡ n.count)) }
@@ -65,7 +66,7 @@ impl<'a> Grades<'a> {
     }
 }
 
-// The value of a digit's literals.
+// The value of a digit's literals. A digit is a number here, as it is in the definitions.
 fn literal(scale: u16, digit: u16, grade: u16) -> u16
     requires { (digit < 4) × (grade ≤ scale) }
     ensures { result ≡ literal scale digit grade }

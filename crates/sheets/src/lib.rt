@@ -6,6 +6,7 @@ ghost use Rattle.sheets.specs.Implicant.{ImplicantPromise};
 ghost use Rattle.sheets.specs.Listing.{ListPromise, JoinPromise, MeetPromise, ComplementPromise};
 ghost use Rattle.sheets.specs.Told.{value_told, verdict_told, count_told};
 
+mod cell;
 mod cover;
 mod first;
 mod grade;
@@ -19,7 +20,7 @@ use grade::Grades;
 pub use refusal::Refusal;
 use sheet::Sheet;
 
-// The value of the sheet at the grades.
+// The value of the sheet at the grades. Scale and grades come side by side, as document 01 lends them.
 pub fn value(n: usize, sheet: &[u16], scale: u16, grades: &[u16]) -> Result<u16, Refusal>
     ensures { ValuePromise n sheet.now scale grades.now (value_told result) sheet.exit.now grades.exit.now }
 {
@@ -33,11 +34,12 @@ pub fn implicant(n: usize, sheet: &[u16], phrase: u16) -> Result<Option<u16>, Re
     ensures { ImplicantPromise n sheet.now phrase (verdict_told result) sheet.exit.now }
 {
     let sheet = Sheet::new(n, sheet)?;
-    sheet.asks(phrase)?;
+    sheet.check(phrase)?;
     Ok(vector::lowest(&sheet, phrase))
 }
 
 // The sheet's primes by rising code, each with its flag: 1 where document 01's walk leaves it in the cover. Gives how many there are.
+// Codes and flags go to two buffers, as document 01 lends them.
 pub fn list(n: usize, sheet: &[u16], codes: &mut [u16], flags: &mut [u8]) -> Result<usize, Refusal>
     ensures { ListPromise n sheet.now codes.old flags.old (count_told result) sheet.exit.now codes.new flags.new }
 {
@@ -56,11 +58,11 @@ pub fn join(n: usize, first: &[u16], second: &[u16], codes: &mut [u16]) -> Resul
     ensures { JoinPromise n first.now second.now codes.old (count_told result) first.exit.now second.exit.now codes.new }
 {
     let (first, second) = Sheet::pair(n, first, second)?;
-    let within = map::of_sheet(&first).either(&map::of_sheet(&second));
+    let within = map::of_both_sheets(&first, &second);
     listing::publish(&map::primes(first.n, &within), codes)
 }
 
-// The prime list of the smaller of two sheets. Gives how many there are.
+// The prime list of the smaller of two sheets. Gives how many there are. It shares with `join` all that the two have in common.
 pub fn meet(n: usize, first: &[u16], second: &[u16], codes: &mut [u16]) -> Result<usize, Refusal>
     ensures { MeetPromise n first.now second.now codes.old (count_told result) first.exit.now second.exit.now codes.new }
 {

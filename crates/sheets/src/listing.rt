@@ -29,7 +29,8 @@ pub(crate) fn publish(primes: &Marks, codes: &mut [u16]) -> Result<usize, Refusa
     Ok(count)
 }
 
-// Gives each code its flag: 1 where it is kept, else 0.
+// Gives each code its flag: 1 where it is kept, else 0. Flags are stored by index: what is written through `iter_mut` beside another iterator is
+// known to no proof yet.
 pub(crate) fn flag(kept: &Marks, codes: &[u16], flags: &mut [u8])
     requires { length codes.now ≤ length flags.old }
     ensures { Flagged kept.now.rows codes.now (length codes.now) flags.old flags.new }

@@ -1,4 +1,5 @@
 // Within maps of sheets over six variables, and the marks of the primes that they give.
+ghost use Rattle.std.specs.Prelude.{◌++◌};
 ghost use Rattle.sheets.specs.Maps.{Maps, PrimesOf};
 
 use crate::sheet::{Sheet, Variables};
@@ -9,6 +10,15 @@ pub(crate) fn of_sheet(sheet: &Sheet) -> Marks
     ensures { Maps sheet.now.phrases.now result.rows }
 {
     Marks::of(sheet.phrases).close_up()
+}
+
+// The codes that have some phrase of either sheet within them.
+pub(crate) fn of_both_sheets(first: &Sheet, second: &Sheet) -> Marks
+    ensures { Maps (first.now.phrases.now ++ second.now.phrases.now) result.rows }
+{
+    Marks::of(first.phrases)
+        .either(&Marks::of(second.phrases))
+        .close_up()
 }
 
 // The primes over n variables of what has the map: the least codes that no simple or full code outside it subsumes.

@@ -57,13 +57,15 @@ pub(crate) struct Sheet<'a> {
 }
 
 impl<'a> Sheet<'a> {
+    // What a good result holds is told by each of the three below, since each is cited alone.
+
     // One sheet: 1, 2, 3.
     pub(crate) fn new(n: usize, phrases: &'a [u16]) -> Result<Sheet<'a>, Refusal>
         ensures answer { told result ≡ first_of (of_sheet n phrases.now) }
         ensures given { IfOk result (λ s. (s.n.count ≡ n) × (s.phrases.now ≡ phrases.now)) }
     {
         let n = Variables::new(n)?;
-        few(phrases)?;
+        short(phrases)?;
         Sheet::over(n, phrases)
     }
 
@@ -77,8 +79,8 @@ impl<'a> Sheet<'a> {
         ensures given { IfOk result (λ (s, t). (s.n.count ≡ n) × (s.phrases.now ≡ first.now) × (t.n.count ≡ n) × (t.phrases.now ≡ second.now)) }
     {
         let n = Variables::new(n)?;
-        few(first)?;
-        few(second)?;
+        short(first)?;
+        short(second)?;
         let first = Sheet::over(n, first)?;
         let second = Sheet::over(n, second)?;
         Ok((first, second))
@@ -96,7 +98,7 @@ impl<'a> Sheet<'a> {
     }
 
     // 12: a phrase asked about that is 4 ^ n or more.
-    pub(crate) fn asks(&self, phrase: u16) -> Result<(), Refusal>
+    pub(crate) fn check(&self, phrase: u16) -> Result<(), Refusal>
         ensures { told result ≡ phrased self.now.n.count phrase }
     {
         if phrase >= self.n.codes() {
@@ -107,7 +109,7 @@ impl<'a> Sheet<'a> {
 }
 
 // 2: more than 4,096 phrases.
-fn few(sheet: &[u16]) -> Result<(), Refusal>
+fn short(sheet: &[u16]) -> Result<(), Refusal>
     ensures { told result ≡ phrases sheet.now }
 {
     if sheet.len() > MOST_PHRASES {

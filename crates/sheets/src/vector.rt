@@ -57,7 +57,7 @@ fn reached(n: Variables, v: u16) -> u16
     code
 }
 
-// The digit of the literals that are at least 1 at the grade.
+// The digit of the literals that are at least 1 at the grade, both numbers, as they are in the definitions.
 fn half_digit(grade: u16) -> u16
     requires { grade < 3 }
     ensures { result ≡ reach_digit 2 1 grade }
@@ -69,7 +69,7 @@ fn half_digit(grade: u16) -> u16
     }
 }
 
-// The code with its pairs taken out.
+// The code with its pairs taken out; 0x555 has the complements' literals.
 fn unpaired(code: u16) -> u16
     requires { code < 4 ^ 6 }
     ensures { (result < 4 ^ 6) × ((k : ℕ) → has result k ≡ has code k - has code (flip k)) }

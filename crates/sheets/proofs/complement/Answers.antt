@@ -1,18 +1,13 @@
 -- `complement` meets its promise: a refusal of the sheet, and what `publish` gives of the marks of the complement.
+use Rattle.std.proofs.Common.{rules}
 use mathlib.Core.Path.{refl}
 use Rattle.sheets.proofs.Lists.{complemented_marks}
-use Rattle.sheets.proofs.Published.{listed_err, listed_room, afterwards_err}
+use Rattle.sheets.proofs.Published.{told_no_count, listed_err, listed_room, afterwards_err}
 use Rattle.sheets.specs.Listing.{of_sheet}
 use Rattle.sheets.proofs.complement.Goals as goal
 
 pub returns-in_err-sheet : goal.returns-in_err-sheet
-returns-in_err-sheet c =
-    let a = c.args in
-    let h = c.from_residual.ensures.1 in record {
-      answered = listed_err (of_sheet a.n a.sheet.now) _ _ _ _ h c.in_err-sheet.ensures.answer;
-      sheet_kept = refl;
-      codes_after = afterwards_err _ _ _ _ h;
-    }
+returns-in_err-sheet c = search (rules, told_no_count _ _ c.from_residual.ensures.1, listed_err, afterwards_err)
 
 pub returns : goal.returns
 returns c =

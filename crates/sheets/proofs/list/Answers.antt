@@ -1,4 +1,5 @@
 -- `list` meets its promise: a refusal of the sheet, one for want of room, and the list with its flags.
+use Rattle.std.proofs.Common.{rules}
 use mathlib.Core.Path.{refl, sym, ◌∙◌}
 use Rattle.std.proofs.Common.{length-take-le}
 use Rattle.fuzzy.proofs.Closure.{of_sheet_lem}
@@ -11,14 +12,7 @@ use Rattle.sheets.specs.Listing.{of_sheet}
 use Rattle.sheets.proofs.list.Goals as goal
 
 pub returns-in_err-sheet : goal.returns-in_err-sheet
-returns-in_err-sheet c =
-    let a = c.args in
-    let h = c.from_residual.ensures.1 in record {
-      answered = listed_err (of_sheet a.n a.sheet.now) _ _ _ _ h c.in_err-sheet.ensures.answer;
-      sheet_kept = refl;
-      codes_after = afterwards_err _ _ _ _ h;
-      flags_after = afterwards_err _ _ _ _ h;
-    }
+returns-in_err-sheet c = search (rules, told_no_count _ _ c.from_residual.ensures.1, listed_err, afterwards_err)
 
 pub returns-in_err-count : goal.returns-in_err-count
 returns-in_err-count c =
@@ -30,22 +24,18 @@ returns-in_err-count c =
     let short = c.min.ensures in record {
       answered = listed_room (of_sheet a.n a.sheet.now) _ _ c.in_ok-sheet.ensures.answer _ (told_no_count _ _ h ∙ rw (marks, short) at c.in_err-count.ensures);
       sheet_kept = refl;
-      codes_after = afterwards_err _ _ _ _ h;
-      flags_after = afterwards_err _ _ _ _ h;
+      codes_after = search (rules, told_no_count _ _ h, afterwards_err);
+      flags_after = search (rules, told_no_count _ _ h, afterwards_err);
     }
 
 pub slice_bounds-listed-end : goal.slice_bounds-listed-end
-slice_bounds-listed-end c =
-    rw c.read.ensures.1 (codes_fit _ c.args.codes.now c.args.flags.now _ c.min.ensures _ c.in_ok-count.ensures refl).1
+slice_bounds-listed-end c = search (rules, codes_fit)
 
 pub slice_bounds-listed-end-2 : goal.slice_bounds-listed-end-2
 slice_bounds-listed-end-2 c = sym (length-take-le _ _ (slice_bounds-listed-end c))
 
 pub flag-requires : goal.flag-requires
-flag-requires c =
-    let fit = c.in_ok-count.ensures in
-    let end = rw (← c.read.ensures.1) at (codes_fit _ c.args.codes.now c.args.flags.now _ c.min.ensures _ fit refl).1 in
-    rw (length-take-le _ _ end) (flags_fit _ c.args.codes.now c.args.flags.now _ c.min.ensures _ fit refl)
+flag-requires c = search (rules, codes_fit, flags_fit)
 
 pub returns : goal.returns
 returns c =

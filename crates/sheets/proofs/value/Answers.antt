@@ -1,5 +1,5 @@
 -- `value` meets its promise: a refusal of the sheet, one of the grades, and a value are what the promise says.
-use mathlib.Core.Path.{◌∙◌}
+use Rattle.std.proofs.Common.{rules}
 use Rattle.sheets.proofs.Promise.{value_sheet_refused, value_grades_refused, value_done}
 use Rattle.sheets.proofs.value.Goals as goal
 
@@ -12,8 +12,4 @@ returns-in_err-grades c =
     value_grades_refused _ _ _ _ c.in_ok-sheet.ensures.answer _ _ c.from_residual-in_err-grades.ensures.1 (rw same_n at c.in_err-grades.ensures.answer)
 
 pub returns : goal.returns
-returns c =
-    let (same_n, same_phrases) = c.in_ok-sheet.ensures.given in
-    let (same_scale, same_grades, many) = c.in_ok-grades.ensures.given in
-    value_done _ _ _ _ c.in_ok-sheet.ensures.answer (rw same_n at c.in_ok-grades.ensures.answer) _
-    (c.of_sheet.ensures ∙ rw (same_scale, same_grades, many, same_n, same_phrases))
+returns c = search (rules, value_done)

@@ -10,7 +10,7 @@ pub loop-k-init : goal.loop-k-init
 loop-k-init c = down_all _ _ (λ i l. let e = c.each-marks.ensures i l in search rules)
 
 pub loop-k-preserved : goal.loop-k-preserved
-loop-k-preserved c = down_step (square c.args.self.now.rows) c.loop-k.k c.loop-k-test.true c.loop-k.invariant c.lower-marks.ensures
+loop-k-preserved c = down_step (square c.args.self.now.rows) c.loop-k.k c.loop-k-test.true c.loop-k.invariant c.lower.ensures
 
 pub returns : goal.returns
 returns c x l =

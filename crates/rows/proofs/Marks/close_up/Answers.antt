@@ -10,7 +10,7 @@ pub loop-k-init : goal.loop-k-init
 loop-k-init c = up_all _ _ (λ i l. let e = c.each-marks.ensures i l in search rules)
 
 pub loop-k-preserved : goal.loop-k-preserved
-loop-k-preserved c = up_step (square c.args.self.now.rows) c.loop-k.k c.loop-k.invariant c.raise-marks.ensures
+loop-k-preserved c = up_step (square c.args.self.now.rows) c.loop-k.k c.loop-k.invariant c.raise.ensures
 
 pub returns : goal.returns
 returns c x l =

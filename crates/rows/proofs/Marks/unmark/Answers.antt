@@ -4,4 +4,4 @@ use Rattle.rows.proofs.One.{removed_says}
 use Rattle.rows.proofs.Marks.unmark.Goals as goal
 
 pub returns-then-code-lt-CODES : goal.returns-then-code-lt-CODES
-returns-then-code-lt-CODES c = removed_says c.args.self.now.rows c.args.code c.without.result (search rules) c.if-code-lt-CODES.true c.without.ensures
+returns-then-code-lt-CODES c = search (rules, removed_says)

@@ -1,5 +1,6 @@
 -- `vector::level` meets its contract: the code without pairs is that of the literals at least 2, and whether it subsumes the phrase says if the phrase is 2.
-use mathlib.Core.Path.{◌≡◌, ◌∙◌}
+use Rattle.std.proofs.Common.{rules}
+use mathlib.Core.Path.{◌≡◌}
 use Rattle.fuzzy.proofs.Reach.{reach}
 use Rattle.fuzzy.specs.Vector.{vector}
 use Rattle.sheets.proofs.Above.{level_whole, level_half}
@@ -8,7 +9,7 @@ use Rattle.sheets.proofs.vector.level.Goals as goal
 use Rattle.sheets.proofs.vector.level.Goals.{After-unpaired-whole}
 
 pub unpaired-whole-requires : goal.unpaired-whole-requires
-unpaired-whole-requires c = rw c.reached-half.ensures (reach_six c.args.n.count c.args.v c.args.n.few 1)
+unpaired-whole-requires c = search (rules, reach_six)
 
 -- the code without its pairs is that of the literals at least 2
 whole : (c : After-unpaired-whole) → c.unpaired-whole.result ≡ reach 2 2 (vector c.args.n.count c.args.v)
@@ -17,9 +18,7 @@ whole c =
     c.unpaired-whole.ensures.0 c.unpaired-whole.ensures.1
 
 pub returns-then-whole-phrase : goal.returns-then-whole-phrase
-returns-then-whole-phrase c =
-    whole c.before ∙ level_whole c.args.n.count c.args.v c.args.phrase c.requires (rw (whole c.before) at c.if-whole-phrase.true)
+returns-then-whole-phrase c = search (rules, whole, level_whole)
 
 pub returns : goal.returns
-returns c =
-    c.reached-half.ensures ∙ level_half c.args.n.count c.args.v c.args.phrase c.requires (rw (whole c.before) at c.if-whole-phrase.false)
+returns c = search (rules, level_half, whole)

@@ -1,8 +1,8 @@
 -- `vector::reached` meets its contract.
-use mathlib.Core.Path.{◌≡◌, refl, sym, ap, ◌∙◌}
-use Prim.Native.Nat.{ℕ, suc, ◌+◌, ◌*◌, ◌<◌, ◌/◌}
+use Rattle.std.proofs.lemmas.Grind.{common_steps}
+use mathlib.Core.Path.{◌≡◌, refl, sym}
+use Prim.Native.Nat.{suc, ◌+◌, ◌*◌, ◌<◌}
 use native.Mathlib.Nat.{le_refl, div-one, pow-suc}
-use native.Mathlib.Numerals.{add-one}
 use native.Mathlib.Omega.{arith}
 use Rattle.fuzzy.proofs.Digits.{number}
 use Rattle.fuzzy.proofs.Reach.{reach}
@@ -36,15 +36,4 @@ overflow_mul-place c =
     omega (arith, c.loop.invariant.place, pow-suc 4 i, power_fits 4 (suc i) (le_refl 4) (omega (arith, c.args.n.few)))
 
 pub loop-preserved : goal.loop-preserved
-loop-preserved c =
-    let l = c.loop in
-    record {
-      rest = ap (λ (x : ℕ). x / 3) l.invariant.rest ∙ next_digit c.args.v l.counter;
-      place = rw (add-one, pow-suc, l.invariant.place);
-      code = turn c;
-    }
-
-pub returns : goal.returns
-returns c =
-    let e : c.loop.counter ≡ c.args.n.count = omega arith in
-    c.loop.invariant.code ∙ ap (λ (k : ℕ). reach 2 1 (vector k c.args.v)) e
+loop-preserved c = grind (arith, common_steps, next_digit, pow-suc, turn c)
