@@ -1,7 +1,4 @@
 // The table of the simple or full codes, and those of them that are not marked.
-ghost use Rattle.std.specs.Prelude.{◌≡◌, ◌⊎◌, ◌↔◌, ℕ, ◌+◌, ◌*◌, ◌<◌};
-ghost use Rattle.fuzzy.specs.Phrase.{has, Simple};
-ghost use Rattle.fuzzy.proofs.Fast.{Full};
 ghost use Rattle.rows.specs.Pass.{Outside};
 
 use crate::{Marks, bits, made};

@@ -1,5 +1,5 @@
 // Sheets in order: what no call refuses.
-ghost use mathlib.Core.List.{[], ◌∷◌, Memᴰ};
+ghost use mathlib.Core.List.{Memᴰ};
 ghost use Rattle.std.specs.Prelude.{◌≡◌, ℕ, ◌^◌, ◌≤◌, ◌<◌, IfOk};
 ghost use Rattle.sheets.specs.Answer.{first_of};
 ghost use Rattle.sheets.specs.Refusal.{variables, phrases, codes, phrased};

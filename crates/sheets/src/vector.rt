@@ -1,8 +1,7 @@
 // Vectors of scale 2 by number: their literals as codes, and the lowest at which a phrase is above a sheet.
-ghost use Rattle.std.specs.Prelude.{◌≡◌, ℕ, ◌-◌, ◌^◌, ◌≤◌, ◌<◌, max, MatchOption};
+ghost use Rattle.std.specs.Prelude.{◌≡◌, ℕ, ◌-◌, ◌^◌, ◌<◌, max};
 ghost use Rattle.fuzzy.specs.Phrase.{has};
 ghost use Rattle.fuzzy.specs.Grade.{phrase_value};
-ghost use Rattle.fuzzy.specs.Function.{sheet_fn};
 ghost use Rattle.fuzzy.specs.Vector.{vector, lowest};
 ghost use Rattle.fuzzy.proofs.Reach.{reach_digit, reach};
 ghost use Rattle.fuzzy.proofs.Within.{flip};
