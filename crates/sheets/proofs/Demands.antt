@@ -27,12 +27,12 @@ use Rattle.sheets.specs.Answer.{Answer, Valued, Asked, Listed, first_of}
 use Rattle.sheets.specs.Refusal.{variables, phrases, codes, scaled, counted, graded, phrased, value_refusal, question_refusal}
 use Rattle.sheets.specs.Value.{value_answer, ValuePromise}
 use Rattle.sheets.specs.Implicant.{implicant_answer, ImplicantPromise}
-use Rattle.sheets.specs.Listing.{fitted, of_sheet, of_pair, ListPromise, JoinPromise, MeetPromise, ComplementPromise}
+use Rattle.sheets.specs.Listing.{fitted, of_sheet, of_pair, ListPromise, PairPromise, JoinPromise, MeetPromise, ComplementPromise}
 use Rattle.sheets.proofs.Published.{afterwards_refused}
 use Rattle.sheets.proofs.Checks.{Done, Refused, FirstApplies, some_applies, is_first, Variables, Valid}
 use Rattle.sheets.proofs.Checks.{variables_pass, phrases_pass, codes_pass, scaled_pass, counted_pass, graded_pass, phrased_pass}
 use Rattle.sheets.proofs.Checks.{next_passes, last_passes, sheet_passes, pair_passes, room_passes}
-use Rattle.sheets.proofs.Given.{Begins, first_answers, none_given, begins, ListGave, JoinGave, MeetGave, ComplementGave}
+use Rattle.sheets.proofs.Given.{Begins, first_answers, none_given, begins, ListGave, PairGave, JoinGave, MeetGave, ComplementGave}
 use Rattle.sheets.proofs.Given.{Gave, by_list, by_join, by_meet, by_complement, list_list, list_flags, join_list, meet_list, complement_list}
 use Rattle.sheets.proofs.Flagged.{flagged, flagged_cover}
 
@@ -50,13 +50,9 @@ implicant_checks n F p = variables n ∷ phrases F ∷ codes n F ∷ phrased n p
 abbrev pub list_checks : ℕ → List ℕ → List ℕ → List ℕ → List Answer
 list_checks n F cs fs = of_sheet n F ++ (fitted (length (listed n F)) (min (length cs) (length fs)) ∷ [])
 
--- what `join` checks
-abbrev pub join_checks : ℕ → List ℕ → List ℕ → List ℕ → List Answer
-join_checks n A B cs = of_pair n A B ++ (fitted (length (joined n A B)) (length cs) ∷ [])
-
--- what `meet` checks
-abbrev pub meet_checks : ℕ → List ℕ → List ℕ → List ℕ → List Answer
-meet_checks n A B cs = of_pair n A B ++ (fitted (length (met n A B)) (length cs) ∷ [])
+-- what `join` and `meet` check, whose lists are joined and met
+abbrev pub pair_checks : (ℕ → List ℕ → List ℕ → List ℕ) → ℕ → List ℕ → List ℕ → List ℕ → List Answer
+pair_checks made n A B cs = of_pair n A B ++ (fitted (length (made n A B)) (length cs) ∷ [])
 
 -- what `complement` checks
 abbrev pub complement_checks : ℕ → List ℕ → List ℕ → List Answer
@@ -157,73 +153,46 @@ module _ (n : ℕ) (F cs fs : List ℕ) (r : Listed) (F' cs' fs' : List ℕ) (h 
     h.sheet_kept,
   )
 
-module _ (n : ℕ) (A B cs : List ℕ) (r : Listed) (A' B' cs' : List ℕ) (h : JoinPromise n A B cs r A' B' cs') where
-  -- `join` answers the first of its checks that applies
-  pub join_answers : r.answer ≡ first_of (join_checks n A B cs)
-  join_answers = first_answers (of_pair n A B) (joined n A B) _ h.answered
+-- `join` is the case where made is joined, `meet` the one where it is met.
+module _ (made : ℕ → List ℕ → List ℕ → List ℕ) (n : ℕ) (A B cs : List ℕ) (r : Listed) (A' B' cs' : List ℕ)
+    (h : PairPromise made n A B cs r A' B' cs') where
+  -- a call that makes a list of two sheets answers the first of its checks that applies
+  pub pair_answers : r.answer ≡ first_of (pair_checks made n A B cs)
+  pair_answers = first_answers (of_pair n A B) (made n A B) _ h.answered
 
   -- it is not 0 exactly when one of them applies
-  pub join_applies : Refused r.answer ↔ ((b : Answer) × Memᴰ b (join_checks n A B cs) × Refused b)
-  join_applies = some_applies (join_checks n A B cs) r.answer join_answers
+  pub pair_applies : Refused r.answer ↔ ((b : Answer) × Memᴰ b (pair_checks made n A B cs) × Refused b)
+  pair_applies = some_applies (pair_checks made n A B cs) r.answer pair_answers
 
   -- and then it is the first that does, number and detail
-  pub join_first : Refused r.answer → FirstApplies (join_checks n A B cs) r.answer
-  join_first = is_first (join_checks n A B cs) r.answer join_answers
+  pub pair_first : Refused r.answer → FirstApplies (pair_checks made n A B cs) r.answer
+  pair_first = is_first (pair_checks made n A B cs) r.answer pair_answers
 
   -- it is done exactly when both sheets are in order and the list fits
-  pub join_done : Done r.answer ↔ (Valid n A × Valid n B × (length (joined n A B) ≤ length cs))
-  join_done = rw join_answers (pair_passes n _ (room_passes (length (joined n A B)) (length cs)) A B)
-
-  -- room for 4 ^ n entries is always enough
-  pub join_room : Valid n A → Valid n B → 4 ^ n ≤ length cs → Done r.answer
-  join_room a b l = join_done.1 (a, b, le_trans (ListLaws.few n (join_fn (sheet_fn n A) (sheet_fn n B))) l)
+  pub pair_done : Done r.answer ↔ (Valid n A × Valid n B × (length (made n A B) ≤ length cs))
+  pair_done = rw pair_answers (pair_passes n _ (room_passes (length (made n A B)) (length cs)) A B)
 
   -- where it is refused every lent buffer is as it came, and no entry is given
-  pub join_refused : Refused r.answer → (cs' ≡ cs) × (A' ≡ A) × (B' ≡ B) × (r.count ≡ 0)
-  join_refused d = (
-    h.codes_after ∙ afterwards_refused r (joined n A B) cs d,
+  pub pair_refused : Refused r.answer → (cs' ≡ cs) × (A' ≡ A) × (B' ≡ B) × (r.count ≡ 0)
+  pair_refused d = (
+    h.codes_after ∙ afterwards_refused r (made n A B) cs d,
     h.first_kept,
     h.second_kept,
-    none_given (of_pair n A B) (joined n A B) (length cs) h.answered d,
+    none_given (of_pair n A B) (made n A B) (length cs) h.answered d,
   )
 
   -- where it is done the codes begin with the list, and the rest is as it came
-  pub join_given : Done r.answer → Begins r (joined n A B) cs cs' × (A' ≡ A) × (B' ≡ B)
-  join_given d = (begins (of_pair n A B) (joined n A B) _ h.answered (joined n A B) cs cs' refl h.codes_after d, h.first_kept, h.second_kept)
+  pub pair_given : Done r.answer → Begins r (made n A B) cs cs' × (A' ≡ A) × (B' ≡ B)
+  pair_given d = (begins (of_pair n A B) (made n A B) _ h.answered (made n A B) cs cs' refl h.codes_after d, h.first_kept, h.second_kept)
 
-module _ (n : ℕ) (A B cs : List ℕ) (r : Listed) (A' B' cs' : List ℕ) (h : MeetPromise n A B cs r A' B' cs') where
-  -- `meet` answers the first of its checks that applies
-  pub meet_answers : r.answer ≡ first_of (meet_checks n A B cs)
-  meet_answers = first_answers (of_pair n A B) (met n A B) _ h.answered
+module _ (n : ℕ) (A B cs : List ℕ) (r : Listed) (A' B' cs' : List ℕ) where
+  -- room for 4 ^ n entries is always enough for `join`
+  pub join_room : JoinPromise n A B cs r A' B' cs' → Valid n A → Valid n B → 4 ^ n ≤ length cs → Done r.answer
+  join_room h a b l = (pair_done joined n A B cs r A' B' cs' h).1 (a, b, le_trans (ListLaws.few n (join_fn (sheet_fn n A) (sheet_fn n B))) l)
 
-  -- it is not 0 exactly when one of them applies
-  pub meet_applies : Refused r.answer ↔ ((b : Answer) × Memᴰ b (meet_checks n A B cs) × Refused b)
-  meet_applies = some_applies (meet_checks n A B cs) r.answer meet_answers
-
-  -- and then it is the first that does, number and detail
-  pub meet_first : Refused r.answer → FirstApplies (meet_checks n A B cs) r.answer
-  meet_first = is_first (meet_checks n A B cs) r.answer meet_answers
-
-  -- it is done exactly when both sheets are in order and the list fits
-  pub meet_done : Done r.answer ↔ (Valid n A × Valid n B × (length (met n A B) ≤ length cs))
-  meet_done = rw meet_answers (pair_passes n _ (room_passes (length (met n A B)) (length cs)) A B)
-
-  -- room for 4 ^ n entries is always enough
-  pub meet_room : Valid n A → Valid n B → 4 ^ n ≤ length cs → Done r.answer
-  meet_room a b l = meet_done.1 (a, b, le_trans (ListLaws.few n (meet_fn (sheet_fn n A) (sheet_fn n B))) l)
-
-  -- where it is refused every lent buffer is as it came, and no entry is given
-  pub meet_refused : Refused r.answer → (cs' ≡ cs) × (A' ≡ A) × (B' ≡ B) × (r.count ≡ 0)
-  meet_refused d = (
-    h.codes_after ∙ afterwards_refused r (met n A B) cs d,
-    h.first_kept,
-    h.second_kept,
-    none_given (of_pair n A B) (met n A B) (length cs) h.answered d,
-  )
-
-  -- where it is done the codes begin with the list, and the rest is as it came
-  pub meet_given : Done r.answer → Begins r (met n A B) cs cs' × (A' ≡ A) × (B' ≡ B)
-  meet_given d = (begins (of_pair n A B) (met n A B) _ h.answered (met n A B) cs cs' refl h.codes_after d, h.first_kept, h.second_kept)
+  -- and for `meet`
+  pub meet_room : MeetPromise n A B cs r A' B' cs' → Valid n A → Valid n B → 4 ^ n ≤ length cs → Done r.answer
+  meet_room h a b l = (pair_done met n A B cs r A' B' cs' h).1 (a, b, le_trans (ListLaws.few n (meet_fn (sheet_fn n A) (sheet_fn n B))) l)
 
 module _ (n : ℕ) (A cs : List ℕ) (r : Listed) (A' cs' : List ℕ) (h : ComplementPromise n A cs r A' cs') where
   -- `complement` answers the first of its checks that applies
@@ -298,15 +267,12 @@ module _ {n : ℕ} {F ps fs : List ℕ} (c : ListGave n F ps fs) where
 
 -- Demand 3. The lists of join, meet and complement.
 
+-- `join` and `meet` were asked about sheets in order
+pub pair_asked : {made : ℕ → List ℕ → List ℕ → List ℕ} {n : ℕ} {A B ps : List ℕ} → PairGave made n A B ps → Valid n A × Valid n B
+pair_asked {made = made} {n = n} {A = A} {B = B} c =
+    let (a, b, fits) = (pair_done made n A B _ c.answer _ _ _ c.promised).0 c.is_done in (a, b)
+
 module _ {n : ℕ} {A B ps : List ℕ} where
-  -- `join` was asked about sheets in order
-  pub join_asked : JoinGave n A B ps → Valid n A × Valid n B
-  join_asked c = let (a, b, fits) = (join_done n A B _ c.answer _ _ _ c.promised).0 c.is_done in (a, b)
-
-  -- so was `meet`
-  pub meet_asked : MeetGave n A B ps → Valid n A × Valid n B
-  meet_asked c = let (a, b, fits) = (meet_done n A B _ c.answer _ _ _ c.promised).0 c.is_done in (a, b)
-
   -- the list that `join` gives has the larger value everywhere
   pub join_value : JoinGave n A B ps → Same n (sheet_fn n ps) (join_fn (sheet_fn n A) (sheet_fn n B))
   join_value c = rw (join_list c) (Lattice.joined_value n A B)
@@ -339,8 +305,8 @@ module _ {n : ℕ} {A ps : List ℕ} (c : ComplementGave n A ps) where
 -- a list that a call gave is the list of the primes of a sheet's function, over 1 to 6 variables
 gave_primes : {n : ℕ} {ps : List ℕ} → Gave n ps → Variables n × ((f : Fn) × OfSheet n f × (ps ≡ primes n f))
 gave_primes {n = n} (by_list F fs c) = ((list_asked c).0, (sheet_fn n F, of_sheet_lem n F, list_list c))
-gave_primes {n = n} (by_join A B c) = ((join_asked c).0.0, (join_fn (sheet_fn n A) (sheet_fn n B), of_joined n A B, join_list c))
-gave_primes {n = n} (by_meet A B c) = ((meet_asked c).0.0, (meet_fn (sheet_fn n A) (sheet_fn n B), of_met n A B, meet_list c))
+gave_primes {n = n} (by_join A B c) = ((pair_asked c).0.0, (join_fn (sheet_fn n A) (sheet_fn n B), of_joined n A B, join_list c))
+gave_primes {n = n} (by_meet A B c) = ((pair_asked c).0.0, (meet_fn (sheet_fn n A) (sheet_fn n B), of_met n A B, meet_list c))
 gave_primes {n = n} (by_complement A c) = ((complement_asked c).0, (complement_fn (sheet_fn n A), of_complemented n A, complement_list c))
 
 module _ {n : ℕ} {ps : List ℕ} (c : Gave n ps) where
