@@ -1,4 +1,5 @@
-// The two calls of `sheets`, each with its answer printed on a line under the case's name.
+// The two calls of `sheets`, each with its answer printed on a line under the case's name. The answer is the one that the result is proved to tell.
+use sheets::answer::Answer;
 use std::io;
 
 // Asks for the sheet's value and prints number, detail and value.
@@ -10,10 +11,10 @@ pub(crate) fn value(
     scale: u16,
     grades: &[u16],
 ) -> io::Result<()> {
-    match sheets::value(n, sheet, scale, grades) {
-        Ok(value) => println!(rt; "{name} 0 0 {value}"),
-        Err(refusal) => println!(rt; "{name} {refusal} 0"),
-    }
+    let valued = sheets::value_told(sheets::value(n, sheet, scale, grades));
+    answer(rt, name, valued.answer)?;
+    number(rt, valued.value as u64)?;
+    println!(rt)
 }
 
 // Asks whether the phrase is an implicant and prints number, detail, verdict and vector.
@@ -24,9 +25,21 @@ pub(crate) fn implicant(
     sheet: &[u16],
     phrase: u16,
 ) -> io::Result<()> {
-    match sheets::implicant(n, sheet, phrase) {
-        Ok(None) => println!(rt; "{name} 0 0 1 0"),
-        Ok(Some(vector)) => println!(rt; "{name} 0 0 0 {vector}"),
-        Err(refusal) => println!(rt; "{name} {refusal} 0 0"),
-    }
+    let asked = sheets::verdict_told(sheets::implicant(n, sheet, phrase));
+    answer(rt, name, asked.answer)?;
+    number(rt, asked.verdict as u64)?;
+    number(rt, asked.vector as u64)?;
+    println!(rt)
+}
+
+// The case's name, then number and detail.
+fn answer(rt: &impl Print, name: &str, answer: Answer) -> io::Result<()> {
+    print!(rt; "{name}")?;
+    number(rt, answer.number as u64)?;
+    number(rt, answer.detail)
+}
+
+// A number after a space.
+fn number(rt: &impl Print, x: u64) -> io::Result<()> {
+    print!(rt; " {x}")
 }

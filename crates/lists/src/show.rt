@@ -1,6 +1,7 @@
-// The four calls of `sheets` that give a list, each with its answer and all that was lent printed on a line under the case's name.
+// The four calls of `sheets` that give a list, each with its answer and all that was lent printed on a line under the case's name. The answer is the one
+// that the result is proved to tell.
 use crate::pair::Pair;
-use sheets::Refusal;
+use sheets::{Listed, count_told};
 use std::fmt::Display;
 use std::io;
 
@@ -37,11 +38,12 @@ pub(crate) fn list_into(
     let mut flags = [FLAG; MOST];
     let codes = &mut codes[..code_room as usize];
     let flags = &mut flags[..flag_room as usize];
-    let listed = sheets::list(n, sheet, codes, flags);
-    let count = answer(rt, name, listed)?;
-    lent(rt, codes, count)?;
+    let listed = count_told(sheets::list(n, sheet, codes, flags));
+    print!(rt; "{name}")?;
+    answer(rt, listed)?;
+    lent(rt, codes, listed.count)?;
     print!(rt; " flags")?;
-    lent(rt, flags, count)?;
+    lent(rt, flags, listed.count)?;
     println!(rt)
 }
 
@@ -54,8 +56,11 @@ pub(crate) fn pair<P: Pair>(
     second: &[u16],
     room: u8,
 ) -> io::Result<()> {
-    print!(rt; "{}-", P::name())?;
-    named::<P>(rt, case, n, first, second, room)
+    let mut codes = [CODE; MOST];
+    let codes = &mut codes[..room as usize];
+    let listed = count_told(P::call(n, first, second, codes));
+    print!(rt; "{}-{case}", P::name())?;
+    plain(rt, listed, codes)
 }
 
 // The same under a name of its own.
@@ -69,8 +74,9 @@ pub(crate) fn named<P: Pair>(
 ) -> io::Result<()> {
     let mut codes = [CODE; MOST];
     let codes = &mut codes[..room as usize];
-    let listed = P::call(n, first, second, codes);
-    plain(rt, name, listed, codes)
+    let listed = count_told(P::call(n, first, second, codes));
+    print!(rt; "{name}")?;
+    plain(rt, listed, codes)
 }
 
 // Asks for the complement.
@@ -83,36 +89,32 @@ pub(crate) fn complement(
 ) -> io::Result<()> {
     let mut codes = [CODE; MOST];
     let codes = &mut codes[..room as usize];
-    let listed = sheets::complement(n, sheet, codes);
-    plain(rt, name, listed, codes)
+    let listed = count_told(sheets::complement(n, sheet, codes));
+    print!(rt; "{name}")?;
+    plain(rt, listed, codes)
 }
 
-// The line of a call that gives no flags.
-fn plain(
-    rt: &impl Print,
-    name: &str,
-    listed: Result<usize, Refusal>,
-    codes: &[u16],
-) -> io::Result<()> {
-    let count = answer(rt, name, listed)?;
-    lent(rt, codes, count)?;
+// The line of a call that gives no flags, after the name.
+fn plain(rt: &impl Print, listed: Listed, codes: &[u16]) -> io::Result<()> {
+    answer(rt, listed)?;
+    lent(rt, codes, listed.count)?;
     println!(rt)
 }
 
-// Prints name, number, detail and count, and gives the count: none of a refused call.
-fn answer(rt: &impl Print, name: &str, listed: Result<usize, Refusal>) -> io::Result<usize> {
-    match listed {
-        Ok(count) => print!(rt; "{name} 0 0 {count}")?,
-        Err(refusal) => print!(rt; "{name} {refusal} 0")?,
-    }
-    Ok(listed.unwrap_or(0))
+// Number, detail and count, each after a space.
+fn answer(rt: &impl Print, listed: Listed) -> io::Result<()> {
+    print!(rt; " {}", listed.answer.number)?;
+    print!(rt; " {}", listed.answer.detail)?;
+    print!(rt; " {}", listed.count)
 }
 
 // Prints all that was lent, with a bar before the first that the call had no entry for. The count goes beside it, since what was lent is printed whole.
 fn lent<T: Display>(rt: &impl Print, lent: &[T], count: usize) -> io::Result<()> {
     for (i, x) in lent.iter().enumerate() {
-        let bar = if i == count { " |" } else { "" };
-        print!(rt; "{bar} {x}")?;
+        if i == count {
+            print!(rt; " |")?;
+        }
+        print!(rt; " {x}")?;
     }
     Ok(())
 }

@@ -71,7 +71,7 @@ module _ (m : List ℕ) (code : ℕ) (rows : length m ≡ 64) (six : code < 4096
       )
 
 -- a code of 4,096 or more changes nothing
-unadded : (m : List ℕ) (code : ℕ) → 4096 ≤ code → Added m code m
+pub unadded : (m : List ℕ) (code : ℕ) → 4096 ≤ code → Added m code m
 unadded m code h c l = (λ x. inl x, ⊎_elim (λ (x : Marked m c). x) (λ (e : c ≡ code). absurd (omega arith)))
 
 -- so it is of whatever is the marks with the bit set, the row taken below 64

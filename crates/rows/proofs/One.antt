@@ -2,17 +2,19 @@
 -- has all of its literals (`covered_says`).
 -- A code has all of another's literals where its row has all of the other's row and its bit all of the other's bit (`split`, `join`).
 -- The bits that have all of one bit's are that bit closed upwards (`bits_above`); what was found is what the rows mark that were met and have all of
--- the code's row (`Gathered`).
+-- the code's row (`Gathered`). Such rows are met one after the other: how many come before (`rank`) goes up by one a turn (`rank_next`), so none is
+-- left out, and 64 halved for each literal of the code's row are all of them (`rank_end`).
 use borrow.Author.Tests.{eqb-false, ne_eqb, not-true}
-use mathlib.Core.Path.{◌≡◌, sym, ap, ◌∙◌}
+use mathlib.Core.Path.{◌≡◌, refl, sym, ap, ◌∙◌}
 use mathlib.Core.Bool.{true, not}
 use mathlib.Core.Logic.{◌≢◌, ◌↔◌}
 use mathlib.Core.List.{List}
-use Prim.Native.Nat.{ℕ, suc, ◌+◌, ◌-◌, ◌*◌, ◌/◌, ◌%◌, ◌^◌, ◌≤◌, ◌<◌, min}
+use Prim.Native.Nat.{ℕ, zero, suc, ◌+◌, ◌-◌, ◌*◌, ◌/◌, ◌%◌, ◌^◌, ◌≤◌, ◌<◌, min}
 use native.Mathlib.Nat.{mod-lt}
-use native.Mathlib.Decide.{ℕ_discrete, dec_le}
+use native.Mathlib.Decide.{ℕ_discrete, dec_le, dec_lt}
 use native.Mathlib.Omega.{arith}
-use lib.Bits.{bit_and, bit_or, and_le_l, and_le_r}
+use lib.Bits.{bit_and, bit_or, and_step, or_step, or_zero_r, and_le_l, and_le_r, or_add_and, and_self}
+use lib.Count.{ones}
 use lib.Dec.{eqb}
 use mir.Syntax.{w64}
 use lib.ListN.{length, get_or, set}
@@ -22,7 +24,8 @@ use Rattle.fuzzy.specs.Phrase.{has, Subsumes}
 use Rattle.fuzzy.proofs.Literals.{has_lt, has_or, has_and, has_none, has_one, has_itself, has_high}
 use Rattle.fuzzy.proofs.Subsumes.{subsumes_and}
 use Rattle.std.specs.Int.{trailing_zeros}
-use Rattle.std.proofs.lemmas.Nat.{one_shl}
+use Rattle.std.proofs.lemmas.Bool.{agree_below_at, eqb-true}
+use Rattle.std.proofs.lemmas.Nat.{one_shl, and_or_self}
 use Rattle.std.proofs.lemmas.Nat.Bits.{bit_at-trailing_zeros, shr_and_one}
 use Rattle.rows.specs.Square.{square, Marked}
 use Rattle.rows.specs.Stage.{raise, closed_up}
@@ -38,7 +41,7 @@ module _ (m : List ℕ) (code : ℕ) where
   module _ (v : ℕ) (len : length m ≡ 64) (l : code < 4096)
       (out : (b : ℕ) → b < 64 → has v b ≡ min (has (get_or m (code / 64) 0) b) (1 - has (1 * 2 ^ (code % 64) % 18446744073709551616) b)) where
     -- the marks with the code's bit taken out of its row
-    abbrev taken : List ℕ
+    abbrev pub taken : List ℕ
     taken = set m (code / 64) v
 
     -- a bit of the code's own row
@@ -127,6 +130,81 @@ module _ (q code : ℕ) where
       at (yes h) = let e : 6 + (k - 6) ≡ k = omega arith in rw e at (late (k - 6) (omega arith))
       at (no d) = rw (has_bit code k (omega arith), has_bit q k (omega arith)) (low k l)
 
+-- the halves of a number that has all of h have all of h's halves
+half_all : (i h : ℕ) → bit_and i h ≡ h → (bit_and (i / 2) (h / 2) ≡ h / 2) × (h % 2 ≤ i % 2)
+half_all i h all = (omega (arith, and_step i h), omega (arith, and_step i h))
+
+-- a number with a bit put below it, unless it is left out
+below : ℕ → ℕ → ℕ → ℕ
+below zero bit number = 2 * number + bit
+below (suc out) bit number = number
+
+-- the number that i's bits make without those where h, of n bits, has one: where i has all of h, how many numbers before it have
+pub rank : ℕ → ℕ → ℕ → ℕ
+rank zero h i = i
+rank (suc n) h i = below (h % 2) (i % 2) (rank n (h / 2) (i / 2))
+
+-- what comes after a number that has all of h has a higher rank
+rank_rises : (n h i j : ℕ) → bit_and i h ≡ h → i < j → rank n h i < rank n h j
+unfolding rank below
+rank_rises zero h i j all l = l
+rank_rises (suc n) h i j all l = at (h % 2) refl (ℕ_discrete (i / 2) (j / 2)) (rank_rises n (h / 2) (i / 2) (j / 2) (half_all i h all).0)
+  where
+    at : (b : ℕ) → h % 2 ≡ b → Dec (i / 2 ≡ j / 2) → (i / 2 < j / 2 → rank n (h / 2) (i / 2) < rank n (h / 2) (j / 2))
+        → below b (i % 2) (rank n (h / 2) (i / 2)) < below b (j % 2) (rank n (h / 2) (j / 2))
+    at zero e (yes s) more = rw s (omega arith)
+    at zero e (no d) more = omega (arith, more (omega arith))
+    at (suc b) e (yes s) more = absurd (omega (arith, (half_all i h all).1))
+    at (suc b) e (no d) more = more (omega arith)
+
+-- from 2 ^ n on no rank is below that of 2 ^ n
+rank_past : (n h i : ℕ) → 2 ^ n ≤ i → rank n h (2 ^ n) ≤ rank n h i
+unfolding rank below
+rank_past zero h i l = l
+rank_past (suc n) h i l = at (h % 2) (rank_past n (h / 2) (i / 2) (omega arith))
+  where
+    at : (b : ℕ) → rank n (h / 2) (2 ^ n) ≤ rank n (h / 2) (i / 2)
+        → below b (2 ^ suc n % 2) (rank n (h / 2) (2 ^ suc n / 2)) ≤ below b (i % 2) (rank n (h / 2) (i / 2))
+    at zero more = let half : 2 ^ suc n / 2 ≡ 2 ^ n = omega arith in rw half (omega arith)
+    at (suc b) more = let half : 2 ^ suc n / 2 ≡ 2 ^ n = omega arith in rw half more
+
+-- before h itself no number has all of it
+rank_itself : (n h : ℕ) → h < 2 ^ n → rank n h h ≡ 0
+unfolding rank below
+rank_itself zero h l = omega arith
+rank_itself (suc n) h l = at (h % 2) refl (rank_itself n (h / 2) (omega arith))
+  where
+    at : (b : ℕ) → h % 2 ≡ b → rank n (h / 2) (h / 2) ≡ 0 → below b (h % 2) (rank n (h / 2) (h / 2)) ≡ 0
+    at zero e first = omega arith
+    at (suc b) e first = first
+
+-- the next rank after i's is that of `bit_or (i + 1) h`
+rank_next : (n h i : ℕ) → h < 2 ^ n → bit_and i h ≡ h → rank n h (bit_or (i + 1) h) ≡ rank n h i + 1
+unfolding rank below
+rank_next zero h i l all = let e : h ≡ 0 = omega arith in rw (e, or_zero_r (i + 1))
+rank_next (suc n) h i l all = at (h % 2) refl (ℕ_discrete (i % 2) 0) (rank_next n (h / 2) (i / 2) (omega arith) (half_all i h all).0)
+  where
+    odd : i % 2 ≢ 0 → (bit_or (i + 1) h / 2 ≡ bit_or (i / 2 + 1) (h / 2)) × (bit_or (i + 1) h % 2 ≡ h % 2)
+    odd d = let up : (i + 1) / 2 ≡ i / 2 + 1 = omega arith in let step = rw up at (or_step (i + 1) h) in (omega arith, omega arith)
+
+    even : i % 2 ≡ 0 → bit_or (i + 1) h ≡ i + 1
+    even z =
+        let up : (i + 1) / 2 ≡ i / 2 = omega arith in
+        let step = rw up at (and_step (i + 1) h) in
+        omega (arith, or_add_and (i + 1) h, half_all i h all)
+
+    at : (b : ℕ) → h % 2 ≡ b → Dec (i % 2 ≡ 0) → rank n (h / 2) (bit_or (i / 2 + 1) (h / 2)) ≡ rank n (h / 2) (i / 2) + 1
+        → below b (bit_or (i + 1) h % 2) (rank n (h / 2) (bit_or (i + 1) h / 2)) ≡ below b (i % 2) (rank n (h / 2) (i / 2)) + 1
+    at zero e (yes z) more = let up : (i + 1) / 2 ≡ i / 2 = omega arith in rw (even z, up) (omega arith)
+    at zero e (no d) more = rw (odd d).0 (omega (arith, (odd d).1))
+    at (suc b) e (yes z) more = absurd (omega (arith, (half_all i h all).1))
+    at (suc b) e (no d) more = rw (odd d).0 more
+
+-- before 64 there are 64 halved for each literal of h, by a test of all 64
+rank_end : (h : ℕ) → h < 64 → 64 / 2 ^ ones h ≡ rank 6 h 64
+unfolding rank below ones
+rank_end h l = eqb-true _ _ (agree_below_at (λ h. eqb (64 / 2 ^ ones h) (rank 6 h 64)) (λ h. true) 64 h refl l)
+
 module _ (m : List ℕ) (high : ℕ) where
   -- bit b is marked in a row before i that has all of high
   abbrev Among : ℕ → ℕ → Type 0
@@ -152,16 +230,59 @@ module _ (m : List ℕ) (high : ℕ) where
       back r lr l s e (yes o) = omega (arith, has_or found (get_or m i 0) b, rw o at e, has_lt found b)
       back r lr l s e (no d) = omega (arith, has_or found (get_or m i 0) b, (g b).1 (r, omega arith, l, s, e), has_lt (get_or m i 0) b)
 
-  -- and one that has not is passed over
-  pub gathered_same : (found i : ℕ) → bit_and i high ≢ high → Gathered found i → Gathered found (i + 1)
-  gathered_same found i not_all g b = (
+  -- and where no row from i on before j has all of it, those are passed over
+  pub gathered_same : (found i j : ℕ) → i ≤ j → ((r : ℕ) → i ≤ r → r < j → bit_and r high ≢ high) → Gathered found i → Gathered found j
+  gathered_same found i j up none g b = (
     λ e. let (r, lr, l, s, h) = (g b).0 e in (r, omega arith, l, s, h),
-    λ (r, lr, l, s, e). back r lr l s e (ℕ_discrete r i),
+    λ (r, lr, l, s, e). back r lr l s e (dec_lt r i),
   )
     where
-      back : (r : ℕ) → r < i + 1 → r < 64 → bit_and r high ≡ high → has (get_or m r 0) b ≡ 1 → Dec (r ≡ i) → has found b ≡ 1
-      back r lr l s e (yes o) = absurd (not_all (rw o at s))
-      back r lr l s e (no d) = (g b).1 (r, omega arith, l, s, e)
+      back : (r : ℕ) → r < j → r < 64 → bit_and r high ≡ high → has (get_or m r 0) b ≡ 1 → Dec (r < i) → has found b ≡ 1
+      back r lr l s e (yes h) = (g b).1 (r, h, l, s, e)
+      back r lr l s e (no d) = absurd (none r (omega arith) lr s)
+
+-- after k turns i has all of high, k rows before it have, and found has their bits
+pub record Met (m : List ℕ) (high found i k : ℕ) : Type 0 where
+  pub few : high < 64
+  pub all : bit_and i high ≡ high
+  pub ranked : rank 6 high i ≡ k
+  pub gathered : Gathered m high found i
+
+-- at high itself none is met yet
+pub met_none : (m : List ℕ) (high : ℕ) → high < 64 → Met m high 0 high 0
+met_none m high l = record { few = l; all = and_self high; ranked = rank_itself 6 high l; gathered = gathered_none m high }
+
+module _ {m : List ℕ} {high found i k : ℕ} (met : Met m high found i k) where
+  -- while there are turns left i is a row
+  pub met_row : k < 64 / 2 ^ ones high → i < 64
+  met_row l = at (dec_lt i 64)
+    where
+      at : Dec (i < 64) → i < 64
+      at (yes h) = h
+      at (no d) = absurd (omega (arith, met.ranked, rank_end high met.few, rank_past 6 high i (omega arith)))
+
+  -- and then all rows are met
+  pub met_all : 64 / 2 ^ ones high ≤ k → 64 ≤ i
+  met_all l = at (dec_lt i 64)
+    where
+      at : Dec (i < 64) → 64 ≤ i
+      at (yes h) = absurd (omega (arith, met.ranked, rank_end high met.few, rank_rises 6 high i 64 met.all h))
+      at (no d) = omega arith
+
+  -- a turn gathers row i and goes on to the next that has all of high, since none between them has
+  pub met_more : i < 64 → Met m high (bit_or found (get_or m i 0)) (bit_or (i + 1) high) (k + 1)
+  met_more l = record {
+    few = met.few;
+    all = and_or_self high (i + 1);
+    ranked = omega (arith, rank_next 6 high i met.few met.all, met.ranked);
+    gathered =
+        gathered_same m high (bit_or found (get_or m i 0)) (i + 1) (bit_or (i + 1) high) (omega (arith, or_add_and (i + 1) high, and_le_r (i + 1) high))
+        none_between (gathered_more m high found i l met.all met.gathered);
+  }
+    where
+      none_between : (r : ℕ) → i + 1 ≤ r → r < bit_or (i + 1) high → bit_and r high ≢ high
+      none_between r late l s =
+          omega (arith, rank_rises 6 high i r met.all (omega arith), rank_rises 6 high r (bit_or (i + 1) high) s l, rank_next 6 high i met.few met.all)
 
 -- a row that is not empty has a bit
 some_bit : (x : ℕ) → x < 18446744073709551616 → x ≢ 0 → (b : ℕ) × (b < 64) × (has x b ≡ 1)

@@ -1,20 +1,21 @@
 -- Exchanging the digits 0 and 3 of six variables: the rows change places, and so do the bits of each row (`exchange_done`).
 -- One exchange of bits s apart (`turned`) reads bit `moved s mask k` for bit k, whatever the row holds; three of them after each other
 -- read bit `exchange 3 k`, by computed tests over the 64 bits (`three_moved`). The rows change places by `exchange 3` as well
--- (`partner_exchanged`), since `exchange 6` is one of each half (`exchange_split`).
+-- (`partner_exchanged`), four a turn (`four_placed`), since `exchange 6` is one of each half (`exchange_split`).
 use mathlib.Core.Path.{◌≡◌, refl, sym, ap, ◌∙◌}
 use mathlib.Core.Logic.{◌↔◌}
 use mathlib.Core.Bool.{Bool, true, ◌&&◌}
 use mathlib.Core.List.{List}
 use Prim.Native.Nat.{ℕ, zero, suc, ◌+◌, ◌-◌, ◌*◌, ◌/◌, ◌%◌, ◌^◌, ◌≤◌, ◌<◌, min}
 use native.Mathlib.Nat.{min-zero, mul_assoc}
-use native.Mathlib.Decide.{dec_le}
+use native.Mathlib.Decide.{ℕ_discrete, dec_le}
 use native.Mathlib.Omega.{arith}
 use borrow.Author.Tests.{leb-true}
 use lib.Bits.{bit_and, bit_xor, shifted_even}
 use lib.Dec.{eqb, leb}
-use lib.ListN.{get_or}
+use lib.ListN.{length, get_or, set, length-set}
 use lib.Pow.{shl-shr, pow-add}
+use lib.Seq.{get_or-set_same, get_or-set_other}
 use Rattle.fuzzy.specs.Phrase.{digits, has}
 use Rattle.fuzzy.proofs.Digits.{number}
 use Rattle.fuzzy.proofs.Literals.{has_lt, has_and, has_mod}
@@ -150,6 +151,48 @@ pub partner_exchanged : (i : ℕ) → i < 64 → (flipped i < 64) × (flipped i 
 partner_exchanged i l =
     let e : flipped i ≡ exchange 3 i = eqb_eq (flipped i) (exchange 3 i) (agree_below_at (λ i. eqb (flipped i) (exchange 3 i)) (λ i. true) 64 i all_flipped l) in
     (omega (arith, exchange_lt 3 i), e)
+
+-- numbers that differ in their last digit alone, 0 in one and k in the other, differ once exchanged by a d that goes by k alone, by a test of all
+apart : (k d : ℕ) → agree_below (λ four. eqb (exchange 3 (4 * four + k) + d) (exchange 3 (4 * four))) (λ four. true) 16 ≡ true
+    → (four : ℕ) → four < 16 → exchange 3 (4 * four + k) + d ≡ exchange 3 (4 * four)
+apart k d all four l = eqb_eq _ _ (agree_below_at (λ four. eqb (exchange 3 (4 * four + k) + d) (exchange 3 (4 * four))) (λ four. true) 16 four all l)
+
+-- a last digit of 0 is exchanged for 3
+pub three_under : (four : ℕ) → four < 16 → 3 ≤ exchange 3 (4 * four)
+unfolding exchange digits number swap
+three_under four l = omega (arith, apart 3 3 refl four l)
+
+module _ (rows : List ℕ) where
+  -- the rows before n are in their new places
+  abbrev pub Placed : List ℕ → ℕ → Type 0
+  Placed out n = (i : ℕ) → i < n → get_or out i 0 ≡ get_or rows (exchange 3 i) 0
+
+  -- a row more
+  row_placed : (out : List ℕ) (n m from : ℕ) → n < length out → m ≡ n + 1 → from ≡ exchange 3 n → Placed out n
+      → Placed (set out n (get_or rows from 0)) m
+  row_placed out n m from l up e before i li = at (ℕ_discrete i n)
+    where
+      at : Dec (i ≡ n) → get_or (set out n (get_or rows from 0)) i 0 ≡ get_or rows (exchange 3 i) 0
+      at (yes s) = rw (s, get_or-set_same out n (get_or rows from 0) 0 l, e)
+      at (no d) = get_or-set_other out n i (get_or rows from 0) 0 d ∙ before i (omega arith)
+
+  -- the rows with one four more in their places, the first of the four from `from`
+  abbrev pub with_four : List ℕ → ℕ → ℕ → List ℕ
+  with_four out four from =
+      let first = set out (4 * four) (get_or rows from 0) in
+      let second = set first (4 * four + 1) (get_or rows (from - 2) 0) in
+      let third = set second (4 * four + 2) (get_or rows (from - 1) 0) in
+      set third (4 * four + 3) (get_or rows (from - 3) 0)
+
+  -- four rows more
+  pub four_placed : (out : List ℕ) (four from : ℕ) → length out ≡ 64 → four < 16 → from ≡ exchange 3 (4 * four) → Placed out (4 * four)
+      → Placed (with_four out four from) (4 * (four + 1))
+  unfolding exchange digits number swap
+  four_placed out four from len l e before =
+      let first = row_placed out (4 * four) (4 * four + 1) from (omega arith) (omega arith) e before in
+      let second = row_placed _ (4 * four + 1) (4 * four + 2) (from - 2) (simp length-set (omega arith)) (omega arith) (omega (arith, apart 1 2 refl four l)) first in
+      let third = row_placed _ (4 * four + 2) (4 * four + 3) (from - 1) (simp length-set (omega arith)) (omega arith) (omega (arith, apart 2 1 refl four l)) second in
+      row_placed _ (4 * four + 3) (4 * (four + 1)) (from - 3) (simp length-set (omega arith)) (omega arith) (omega (arith, apart 3 3 refl four l)) third
 
 -- a number of six digits is exchanged by halves
 exchange_split : (c : ℕ) → exchange 6 c ≡ exchange 3 (c / 64) * 64 + exchange 3 (c % 64)

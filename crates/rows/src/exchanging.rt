@@ -1,5 +1,5 @@
 // Exchanging the digits 0 and 3 of the codes.
-ghost use Rattle.std.specs.Prelude.{◌≡◌, ℕ, ◌<◌};
+ghost use Rattle.std.specs.Prelude.{◌≡◌, ℕ, ◌<◌, slice_index};
 ghost use Rattle.fuzzy.specs.Phrase.{has};
 ghost use Rattle.fuzzy.proofs.Within.{exchange};
 ghost use Rattle.rows.specs.Pass.{Exchanged};
@@ -20,8 +20,26 @@ impl Marks {
     pub fn exchange(&self) -> Marks
         ensures { Exchanged self.now.rows result.rows }
     {
-        made::each(|i| row(self.rows[partner(i)]))
+        // A pass for the bits and one for the rows: the compiler takes several rows at once in the first, and unrolls the second.
+        placed(&made::each(|i| row(self.rows[i])))
     }
+}
+
+// The rows in their new places, four a turn, so that the compiler unrolls the loop. The four differ in their last digit alone, which is exchanged for
+// 3, 1, 2 and 0.
+fn placed(marks: &Marks) -> Marks
+    ensures { (i : ℕ) → i < 64 → slice_index result.rows i ≡ slice_index marks.now.rows (exchange 3 i) }
+{
+    let mut rows = [0; 64];
+    for four in 0..16 {
+        let to = 4 * four;
+        let from = partner(to);
+        rows[to] = marks.rows[from];
+        rows[to + 1] = marks.rows[from - 2];
+        rows[to + 2] = marks.rows[from - 1];
+        rows[to + 3] = marks.rows[from - 3];
+    }
+    Marks { rows }
 }
 
 // The bits of a row: those with digit 0 that differ from their partners with digit 3, which are `odd`, are flipped, and so are the partners.

@@ -25,18 +25,22 @@ impl Marks {
         (row >> (code % 64)) & 1 != 0
     }
 
-    // Whether some marked code has all literals of the code; no for 4,096 and above. Its row has all of the code's row, so the rows
-    // go by number.
+    // Whether some marked code has all literals of the code; no for 4,096 and above. Its row has all of the code's row, so i goes through the
+    // rows that do, which are 64 halved for each literal of the code's row: the next one after i is i + 1 with the literals that it lost.
     pub fn covers(&self, code: u16) -> bool
         ensures { Covered self.now.rows code result }
     {
-        let high = code as usize / 64;
-        let mut found = 0;
-        for i in high..64 {
-            if i & high == high {
+        if code < CODES {
+            let high = code as usize / 64;
+            let mut found = 0;
+            let mut i = high;
+            for _ in 0..64usize >> high.count_ones() {
                 found |= self.rows[i];
+                i = (i + 1) | high;
             }
+            found & bits::up(1u64 << (code % 64)) != 0
+        } else {
+            false
         }
-        found & bits::up(1u64 << (code % 64)) != 0
     }
 }

@@ -3,7 +3,7 @@ ghost use Rattle.rows.specs.Pass.{Outside};
 
 use crate::{Marks, bits, made};
 
-// The codes that have no digit 3, or no digit 0: numbers, since no shorter rule gives a row.
+// The codes that have no digit 3, or no digit 0, written out so that no row is computed.
 const SIMPLE_OR_FULL: [u64; 64] = [
     0x0000_0777_0777_0777,
     0x0000_0777_0777_0777,

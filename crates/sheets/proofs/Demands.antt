@@ -54,6 +54,14 @@ list_checks n F cs fs = of_sheet n F ++ (fitted (length (listed n F)) (min (leng
 abbrev pub pair_checks : (ℕ → List ℕ → List ℕ → List ℕ) → ℕ → List ℕ → List ℕ → List ℕ → List Answer
 pair_checks made n A B cs = of_pair n A B ++ (fitted (length (made n A B)) (length cs) ∷ [])
 
+-- what `join` checks
+abbrev pub join_checks : ℕ → List ℕ → List ℕ → List ℕ → List Answer
+join_checks = pair_checks joined
+
+-- what `meet` checks
+abbrev pub meet_checks : ℕ → List ℕ → List ℕ → List ℕ → List Answer
+meet_checks = pair_checks met
+
 -- what `complement` checks
 abbrev pub complement_checks : ℕ → List ℕ → List ℕ → List Answer
 complement_checks n A cs = of_sheet n A ++ (fitted (length (complemented n A)) (length cs) ∷ [])
@@ -185,14 +193,53 @@ module _ (made : ℕ → List ℕ → List ℕ → List ℕ) (n : ℕ) (A B cs :
   pub pair_given : Done r.answer → Begins r (made n A B) cs cs' × (A' ≡ A) × (B' ≡ B)
   pair_given d = (begins (of_pair n A B) (made n A B) _ h.answered (made n A B) cs cs' refl h.codes_after d, h.first_kept, h.second_kept)
 
-module _ (n : ℕ) (A B cs : List ℕ) (r : Listed) (A' B' cs' : List ℕ) where
-  -- room for 4 ^ n entries is always enough for `join`
-  pub join_room : JoinPromise n A B cs r A' B' cs' → Valid n A → Valid n B → 4 ^ n ≤ length cs → Done r.answer
-  join_room h a b l = (pair_done joined n A B cs r A' B' cs' h).1 (a, b, le_trans (ListLaws.few n (join_fn (sheet_fn n A) (sheet_fn n B))) l)
+-- The laws above of `join`.
+module _ (n : ℕ) (A B cs : List ℕ) (r : Listed) (A' B' cs' : List ℕ) (h : JoinPromise n A B cs r A' B' cs') where
+  pub join_answers : r.answer ≡ first_of (join_checks n A B cs)
+  join_answers = pair_answers joined n A B cs r A' B' cs' h
 
-  -- and for `meet`
-  pub meet_room : MeetPromise n A B cs r A' B' cs' → Valid n A → Valid n B → 4 ^ n ≤ length cs → Done r.answer
-  meet_room h a b l = (pair_done met n A B cs r A' B' cs' h).1 (a, b, le_trans (ListLaws.few n (meet_fn (sheet_fn n A) (sheet_fn n B))) l)
+  pub join_applies : Refused r.answer ↔ ((b : Answer) × Memᴰ b (join_checks n A B cs) × Refused b)
+  join_applies = pair_applies joined n A B cs r A' B' cs' h
+
+  pub join_first : Refused r.answer → FirstApplies (join_checks n A B cs) r.answer
+  join_first = pair_first joined n A B cs r A' B' cs' h
+
+  pub join_done : Done r.answer ↔ (Valid n A × Valid n B × (length (joined n A B) ≤ length cs))
+  join_done = pair_done joined n A B cs r A' B' cs' h
+
+  -- room for 4 ^ n entries is always enough
+  pub join_room : Valid n A → Valid n B → 4 ^ n ≤ length cs → Done r.answer
+  join_room a b l = join_done.1 (a, b, le_trans (ListLaws.few n (join_fn (sheet_fn n A) (sheet_fn n B))) l)
+
+  pub join_refused : Refused r.answer → (cs' ≡ cs) × (A' ≡ A) × (B' ≡ B) × (r.count ≡ 0)
+  join_refused = pair_refused joined n A B cs r A' B' cs' h
+
+  pub join_given : Done r.answer → Begins r (joined n A B) cs cs' × (A' ≡ A) × (B' ≡ B)
+  join_given = pair_given joined n A B cs r A' B' cs' h
+
+-- The laws above of `meet`.
+module _ (n : ℕ) (A B cs : List ℕ) (r : Listed) (A' B' cs' : List ℕ) (h : MeetPromise n A B cs r A' B' cs') where
+  pub meet_answers : r.answer ≡ first_of (meet_checks n A B cs)
+  meet_answers = pair_answers met n A B cs r A' B' cs' h
+
+  pub meet_applies : Refused r.answer ↔ ((b : Answer) × Memᴰ b (meet_checks n A B cs) × Refused b)
+  meet_applies = pair_applies met n A B cs r A' B' cs' h
+
+  pub meet_first : Refused r.answer → FirstApplies (meet_checks n A B cs) r.answer
+  meet_first = pair_first met n A B cs r A' B' cs' h
+
+  pub meet_done : Done r.answer ↔ (Valid n A × Valid n B × (length (met n A B) ≤ length cs))
+  meet_done = pair_done met n A B cs r A' B' cs' h
+
+  -- room for 4 ^ n entries is always enough
+  pub meet_room : Valid n A → Valid n B → 4 ^ n ≤ length cs → Done r.answer
+  meet_room a b l = meet_done.1 (a, b, le_trans (ListLaws.few n (meet_fn (sheet_fn n A) (sheet_fn n B))) l)
+
+  pub meet_refused : Refused r.answer → (cs' ≡ cs) × (A' ≡ A) × (B' ≡ B) × (r.count ≡ 0)
+  meet_refused = pair_refused met n A B cs r A' B' cs' h
+
+  pub meet_given : Done r.answer → Begins r (met n A B) cs cs' × (A' ≡ A) × (B' ≡ B)
+  meet_given = pair_given met n A B cs r A' B' cs' h
 
 module _ (n : ℕ) (A cs : List ℕ) (r : Listed) (A' cs' : List ℕ) (h : ComplementPromise n A cs r A' cs') where
   -- `complement` answers the first of its checks that applies
@@ -273,6 +320,12 @@ pair_asked {made = made} {n = n} {A = A} {B = B} c =
     let (a, b, fits) = (pair_done made n A B _ c.answer _ _ _ c.promised).0 c.is_done in (a, b)
 
 module _ {n : ℕ} {A B ps : List ℕ} where
+  pub join_asked : JoinGave n A B ps → Valid n A × Valid n B
+  join_asked = pair_asked
+
+  pub meet_asked : MeetGave n A B ps → Valid n A × Valid n B
+  meet_asked = pair_asked
+
   -- the list that `join` gives has the larger value everywhere
   pub join_value : JoinGave n A B ps → Same n (sheet_fn n ps) (join_fn (sheet_fn n A) (sheet_fn n B))
   join_value c = rw (join_list c) (Lattice.joined_value n A B)

@@ -107,7 +107,7 @@ module _ (c : ℕ) (six : c < 4 ^ 6) where
       at (inr (j, e)) = rw (e, flip_odd j, both_odd j) (omega (arith, has_lt c (2 * j), has_lt c (suc (2 * j))))
 
   -- the pairs twice are a code of six variables
-  pairs_fit : pairs + pairs < 4 ^ 6
+  pub pairs_fit : pairs + pairs < 4 ^ 6
   pairs_fit = omega (arith, and_le_r (bit_and c (c / 2)) mask)
 
   -- and so is the code without them

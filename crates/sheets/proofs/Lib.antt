@@ -5,6 +5,7 @@
 --   Told       what the checks answer where their tests hold and where they fail
 --   Refused    the first refusal that applies, and what is known where none does
 --   Found      what the scan for the first entry that is at least a limit says of the check that it serves
+--   Pieces     where a list in two parts has its first entry that is at least a limit
 --   Promise    what the calls answer is what they promise
 --   Unique     any two answers that a promise allows are equal
 --   Meaning    what the promises mean in the user's words
@@ -28,6 +29,7 @@ pub mod Above
 pub mod Told
 pub mod Refused
 pub mod Found
+pub mod Pieces
 pub mod Promise
 pub mod Unique
 pub mod Meaning

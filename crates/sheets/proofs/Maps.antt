@@ -19,14 +19,14 @@ use Rattle.fuzzy.proofs.Search.{known, eqb_eq, eq-eqb, select_same}
 use Rattle.fuzzy.proofs.Literals.{less_smaller}
 use Rattle.fuzzy.proofs.Decide.{decided, refused}
 use Rattle.fuzzy.proofs.Prime.{prime_test, spare_says}
-use Rattle.fuzzy.proofs.Within.{meet_sheet, complement_sheet, exchange, exchange_lt, within_meet, within_complement}
+use Rattle.fuzzy.proofs.Within.{meet_sheet, complement_sheet, exchange, exchange_lt, within_join, within_meet, within_complement}
 use Rattle.fuzzy.proofs.Fast.{outside_of}
 use Rattle.fuzzy.proofs.Wider.{Widens, same_truth, wider}
 use Rattle.rows.proofs.Selected.{select_split}
 use Rattle.rows.specs.Square.{square, Marked}
 use Rattle.rows.specs.Pass.{ClosedUp, ClosedDown, Exchanged, Outside, Least, Others, Either, Both, OfSheet, Cut}
 use Rattle.rows.specs.Read.{is_marked, marks_of}
-use Rattle.sheets.specs.Maps.{Maps, PrimesOf}
+use Rattle.sheets.specs.Maps.{Maps, EitherMaps, PrimesOf}
 
 -- a sheet's codes, closed upwards, are its map
 pub maps_sheet : (F m u : List ℕ) → ((q : ℕ) → Memᴰ q F → q < 4096) → OfSheet F m → ClosedUp m u → Maps F u
@@ -41,6 +41,10 @@ marks_both A B m o r a b e c l = (
   λ h. ⊎_elim (λ x. Memᴰ.append_left B ((a c l).0 x)) (λ x. Memᴰ.append_right A ((b c l).0 x)) ((e c l).0 h),
   λ h. (e c l).1 (⊎_elim (λ x. inl ((a c l).1 x)) (λ x. inr ((b c l).1 x)) (Memᴰ.append_cases A h)),
 )
+
+-- the map of both sheets' phrases is the or of their two maps
+pub maps_either : (A B u : List ℕ) → Maps (A ++ B) u → EitherMaps A B u
+maps_either A B u maps c l = Iff.trans (maps c l) (within_join 6 A B c)
 
 -- the and of two maps is the map of the meet
 pub maps_meet : (A B u v r : List ℕ) → Maps A u → Maps B v → Both u v r → Maps (meet_sheet A B) r

@@ -93,6 +93,12 @@ simple_stays n f o p left prime among plain = at (known (implicant? n (sheet_fn 
         absurd (other (((exactly n f o p).0 prime).1.alone q lq r.implicant sub))
     at (inr y) = y
 
+-- phrases met one after the other are met in two parts
+pub strike_append : (n : ℕ) (xs ys left : List ℕ) → strike n (xs ++ ys) left ≡ strike n ys (strike n xs left)
+unfolding strike
+strike_append n [] ys left = refl
+strike_append n (p ∷ xs) ys left = strike_append n xs ys (cond (implicant? n (sheet_fn n (without p left)) p) (without p left) left)
+
 -- a phrase that the rest makes superfluous is struck
 pub strike_struck : (n p : ℕ) (ps left : List ℕ) → implicant? n (sheet_fn n (without p left)) p ≡ true
     → strike n (p ∷ ps) left ≡ strike n ps (without p left)

@@ -7,27 +7,10 @@
 --   or_else a b         the first where it is a refusal, else the second
 --   first_of answers    the first that is a refusal, done where there is none
 use Rattle.std.specs.Prelude.{ℕ, Bool, cond, List, [], ◌∷◌, eqb}
-
--- a number, 0 where the call is done, and a detail
-pub record Answer : Type 0 where
-  pub number : ℕ
-  pub detail : ℕ
-
--- the answer to `value`: the sheet's value, 0 on a refusal
-pub record Valued : Type 0 where
-  pub answer : Answer
-  pub value : ℕ
-
--- the answer to `implicant`: whether the phrase is one, and if not the lowest vector of scale 2 at which it is above the sheet; no and 0 on a refusal
-pub record Asked : Type 0 where
-  pub answer : Answer
-  pub verdict : Bool
-  pub vector : ℕ
-
--- the answer to `list`, `join`, `meet` and `complement`: how many entries the list has, 0 on a refusal
-pub record Listed : Type 0 where
-  pub answer : Answer
-  pub count : ℕ
+pub use Rattle.sheets.specs.declared.answer.Answer.{Answer}
+pub use Rattle.sheets.specs.declared.answer.Valued.{Valued}
+pub use Rattle.sheets.specs.declared.answer.Asked.{Asked}
+pub use Rattle.sheets.specs.declared.answer.Listed.{Listed}
 
 -- the call is done
 abbrev pub done : Answer

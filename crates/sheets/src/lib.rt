@@ -6,6 +6,7 @@ ghost use Rattle.sheets.specs.Implicant.{ImplicantPromise};
 ghost use Rattle.sheets.specs.Listing.{ListPromise, JoinPromise, MeetPromise, ComplementPromise};
 ghost use Rattle.sheets.specs.Told.{value_told, verdict_told, count_told};
 
+pub mod answer;
 mod cell;
 mod cover;
 mod first;
@@ -16,6 +17,7 @@ mod refusal;
 mod sheet;
 mod vector;
 
+pub use answer::{Asked, Listed, Valued, count_told, value_told, verdict_told};
 use grade::Grades;
 pub use refusal::Refusal;
 use sheet::Sheet;

@@ -1,6 +1,6 @@
 // Within maps of sheets over six variables, and the marks of the primes that they give.
 ghost use Rattle.std.specs.Prelude.{◌++◌};
-ghost use Rattle.sheets.specs.Maps.{Maps, PrimesOf};
+ghost use Rattle.sheets.specs.Maps.{Maps, EitherMaps, PrimesOf};
 
 use crate::sheet::{Sheet, Variables};
 use rows::Marks;
@@ -12,9 +12,10 @@ pub(crate) fn of_sheet(sheet: &Sheet) -> Marks
     Marks::of(sheet.phrases).close_up()
 }
 
-// The codes that have some phrase of either sheet within them.
+// The codes that have some phrase of either sheet within them: the or of the two maps, closed once.
 pub(crate) fn of_both_sheets(first: &Sheet, second: &Sheet) -> Marks
-    ensures { Maps (first.now.phrases.now ++ second.now.phrases.now) result.rows }
+    ensures together { Maps (first.now.phrases.now ++ second.now.phrases.now) result.rows }
+    ensures either { EitherMaps first.now.phrases.now second.now.phrases.now result.rows }
 {
     Marks::of(first.phrases)
         .either(&Marks::of(second.phrases))

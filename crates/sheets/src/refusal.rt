@@ -1,6 +1,6 @@
 // What a call refuses.
-ghost use Rattle.std.specs.Prelude.{◌≡◌};
-ghost use Rattle.sheets.specs.Told.{answer_of};
+ghost use Rattle.std.specs.Prelude.{◌≡◌, Some};
+ghost use Rattle.sheets.specs.Told.{answer_of, refusal_text};
 
 use std::error::Error;
 use std::fmt;
@@ -62,6 +62,8 @@ impl Refusal {
 
 // Number and detail, parted by a blank.
 impl fmt::Display for Refusal {
+    ghost output = { λ e. Some (refusal_text e) };
+
     fn fmt<W: fmt::Write>(&self, f: &mut fmt::Formatter<W>) -> fmt::Result {
         write!(f, "{} {}", self.number(), self.detail())
     }

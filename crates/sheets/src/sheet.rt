@@ -91,7 +91,7 @@ impl<'a> Sheet<'a> {
         ensures answer { told result ≡ codes n.count phrases.now }
         ensures given { IfOk result (λ s. (s.n.count ≡ n.count) × (s.phrases.now ≡ phrases.now)) }
     {
-        if let Some(index) = first::at_least(n.codes(), phrases) {
+        if let Some(index) = first::at_least_of_many(n.codes(), phrases) {
             return Err(Refusal::ForeignCode(index));
         }
         Ok(Sheet { n, phrases })

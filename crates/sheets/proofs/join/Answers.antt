@@ -14,5 +14,5 @@ returns c =
     let second = c.in_ok-first.second in
     let (same_n, same_first, same_n₂, same_second) = c.in_ok-first.ensures.given in
     let marks = joined_marks first.n.count first.n.few first.phrases.now second.phrases.now _ _ first.own (rw (same_n₂, ← same_n) at second.own)
-    c.primes.ensures c.of_both_sheets-within.ensures in
+    c.primes.ensures c.of_both_sheets-within.ensures.together in
     pair_published _ _ _ _ _ c.in_ok-first.ensures.answer _ _ _ (rw (same_n, same_first, same_second) at marks) c.publish.ensures.answer c.publish.ensures.buffer

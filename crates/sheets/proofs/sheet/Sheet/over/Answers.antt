@@ -7,7 +7,7 @@ pub returns-in-Some-clause-answer : goal.returns-in-Some-clause-answer
 returns-in-Some-clause-answer c = search (rules, found_refuses)
 
 pub invariant_of-result : goal.invariant_of-result
-invariant_of-result c = record { own = rw c.codes.ensures at (none_below c.codes.result _ _ c.at_least.ensures c.in_default.is) }
+invariant_of-result c = record { own = rw c.codes.ensures at (none_below c.codes.result _ _ c.at_least_of_many.ensures c.in_default.is) }
 
 pub returns-clause-answer : goal.returns-clause-answer
-returns-clause-answer c = rw c.codes.ensures at (none_passes c.codes.result _ _ 3 c.at_least.ensures c.in_default.is)
+returns-clause-answer c = rw c.codes.ensures at (none_passes c.codes.result _ _ 3 c.at_least_of_many.ensures c.in_default.is)

@@ -1,8 +1,8 @@
--- `first::at_least` meets its contract: no entry is above the or of all, and where that is below the limit the scan finds none.
+-- `first::in_piece` meets its contract: no entry is above the or of all, and where that is below the limit the scan finds none.
 use mathlib.Core.Path.{sym}
 use native.Mathlib.Omega.{arith}
 use Rattle.sheets.proofs.Found.{all_below_none}
-use Rattle.sheets.proofs.first.at_least.Goals as goal
+use Rattle.sheets.proofs.first.in_piece.Goals as goal
 
 pub returns-then-or_of_all-limit : goal.returns-then-or_of_all-limit
 returns-then-or_of_all-limit c =
