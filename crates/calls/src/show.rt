@@ -13,7 +13,7 @@ pub(crate) fn value(
 ) -> io::Result<()> {
     let valued = sheets::value_told(sheets::value(n, sheet, scale, grades));
     answer(rt, name, valued.answer)?;
-    number(rt, valued.value as u64)?;
+    print!(rt; " {}", valued.value)?;
     println!(rt)
 }
 
@@ -27,19 +27,14 @@ pub(crate) fn implicant(
 ) -> io::Result<()> {
     let asked = sheets::verdict_told(sheets::implicant(n, sheet, phrase));
     answer(rt, name, asked.answer)?;
-    number(rt, asked.verdict as u64)?;
-    number(rt, asked.vector as u64)?;
+    print!(rt; " {}", asked.verdict as u8)?;
+    print!(rt; " {}", asked.vector)?;
     println!(rt)
 }
 
-// The case's name, then number and detail.
+// The case's name, then number and detail, each after a space.
 fn answer(rt: &impl Print, name: &str, answer: Answer) -> io::Result<()> {
     print!(rt; "{name}")?;
-    number(rt, answer.number as u64)?;
-    number(rt, answer.detail)
-}
-
-// A number after a space.
-fn number(rt: &impl Print, x: u64) -> io::Result<()> {
-    print!(rt; " {x}")
+    print!(rt; " {}", answer.number)?;
+    print!(rt; " {}", answer.detail)
 }

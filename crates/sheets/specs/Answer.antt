@@ -1,7 +1,7 @@
 -- Answers in document 01's terms: a number, 0 where the call is done, and a detail; and what stands beside them.
---   Answer              a number and a detail
+--   Answer              a number and a detail, a struct of `src/answer.rt`
 --   Valued, Asked, Listed
---                       the whole answer of `value`, of `implicant`, and of `list`, `join`, `meet` and `complement`
+--                       the whole answer of `value`, of `implicant`, and of `list`, `join`, `meet` and `complement`, structs there
 --   done                the call is done
 --   unless holds k d    done where the test holds, else refusal k with detail d
 --   or_else a b         the first where it is a refusal, else the second

@@ -1,4 +1,4 @@
-// Answers in document 01's numbers: what the result of a call tells.
+// Answers in document 01's numbers: what the result of a call tells. No call answers them; who prints or keeps the numbers takes them from here.
 ghost use Rattle.std.specs.Prelude.{◌≡◌};
 ghost use Rattle.sheets.specs.Told.{told, value_told, verdict_told, count_told};
 

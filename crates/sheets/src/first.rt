@@ -11,7 +11,7 @@ pub(crate) fn at_least(limit: u16, list: &[u16]) -> Option<usize>
     list.iter().position(|x| *x >= limit)
 }
 
-// The same of many entries. They are taken piece by piece, so that no more than a piece is read beyond the first.
+// The same of many entries. They are taken piece by piece, so that no more than a piece is read beyond the one found.
 pub(crate) fn at_least_of_many(limit: u16, list: &[u16]) -> Option<usize>
     ensures { result ≡ position (λ x. leb limit x) list.now }
 {

@@ -6,6 +6,9 @@ use Rattle.std.proofs.lemmas.List.Sums.{prefix_len-le-length}
 use Rattle.sheets.proofs.Pieces.{front_has, front_lacks}
 use Rattle.sheets.proofs.first.at_least_of_many.Goals as goal
 
+pub loop-piece-init : goal.loop-piece-init
+loop-piece-init c = (search rules, tt, grind (arith, common_steps), grind (arith, common_steps))
+
 pub returns-in-Some-in_piece : goal.returns-in-Some-in_piece
 returns-in-Some-in_piece c =
     let rest = c.in-Some.ensures.steps.1.0 in
