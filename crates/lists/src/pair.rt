@@ -1,9 +1,9 @@
 // The two calls of `sheets` on two sheets.
 use sheets::Refusal;
 
-// One of them, with its name, with which the names of its cases begin.
+// One of them, with the head with which the names of its cases begin.
 pub(crate) trait Pair {
-    fn name() -> &'static str;
+    fn head() -> &'static str;
 
     fn call(n: usize, first: &[u16], second: &[u16], codes: &mut [u16]) -> Result<usize, Refusal>;
 }
@@ -11,8 +11,8 @@ pub(crate) trait Pair {
 pub(crate) struct Join;
 
 impl Pair for Join {
-    fn name() -> &'static str {
-        "join"
+    fn head() -> &'static str {
+        "join-"
     }
 
     fn call(n: usize, first: &[u16], second: &[u16], codes: &mut [u16]) -> Result<usize, Refusal> {
@@ -23,8 +23,8 @@ impl Pair for Join {
 pub(crate) struct Meet;
 
 impl Pair for Meet {
-    fn name() -> &'static str {
-        "meet"
+    fn head() -> &'static str {
+        "meet-"
     }
 
     fn call(n: usize, first: &[u16], second: &[u16], codes: &mut [u16]) -> Result<usize, Refusal> {

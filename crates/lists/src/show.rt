@@ -47,7 +47,7 @@ pub(crate) fn list_into(
     println!(rt)
 }
 
-// Asks for the join or the meet, whose name begins the case's.
+// Asks for the join or the meet, whose head begins the case's name.
 pub(crate) fn pair<P: Pair>(
     rt: &impl Print,
     case: &str,
@@ -56,11 +56,7 @@ pub(crate) fn pair<P: Pair>(
     second: &[u16],
     room: u8,
 ) -> io::Result<()> {
-    let mut codes = [CODE; MOST];
-    let codes = &mut codes[..room as usize];
-    let listed = count_told(P::call(n, first, second, codes));
-    print!(rt; "{}-{case}", P::name())?;
-    plain(rt, listed, codes)
+    headed::<P>(rt, P::head(), case, n, first, second, room)
 }
 
 // The same under a name of its own.
@@ -72,10 +68,23 @@ pub(crate) fn named<P: Pair>(
     second: &[u16],
     room: u8,
 ) -> io::Result<()> {
+    headed::<P>(rt, "", name, n, first, second, room)
+}
+
+// The same with a head that may be none. It is written together with the name, after the call.
+fn headed<P: Pair>(
+    rt: &impl Print,
+    head: &str,
+    name: &str,
+    n: usize,
+    first: &[u16],
+    second: &[u16],
+    room: u8,
+) -> io::Result<()> {
     let mut codes = [CODE; MOST];
     let codes = &mut codes[..room as usize];
     let listed = count_told(P::call(n, first, second, codes));
-    print!(rt; "{name}")?;
+    print!(rt; "{head}{name}")?;
     plain(rt, listed, codes)
 }
 

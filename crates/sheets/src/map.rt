@@ -12,7 +12,7 @@ pub(crate) fn of_sheet(sheet: &Sheet) -> Marks
     Marks::of(sheet.phrases).close_up()
 }
 
-// The codes that have some phrase of either sheet within them: the or of the two maps, closed once.
+// The codes that have some phrase of either sheet within them: the or of the two maps, from both sheets' marks, closed once.
 pub(crate) fn of_both_sheets(first: &Sheet, second: &Sheet) -> Marks
     ensures together { Maps (first.now.phrases.now ++ second.now.phrases.now) result.rows }
     ensures either { EitherMaps first.now.phrases.now second.now.phrases.now result.rows }
